@@ -1,0 +1,10 @@
+pub mod Tests
+pub mod Members
+pub mod Walk
+pub mod Tables
+pub mod Bytes
+pub mod Deliver
+pub mod Pages
+pub mod Parts
+pub mod Order
+pub mod Sums

@@ -1,0 +1,49 @@
+-- A loop over the first n elements of an array l of `size` elements, of which it has passed i: what is left decides.
+use Prim.Native.Nat.{ℕ, suc, _+_, _-_, _≤_, _<_, min}
+use mathlib.Core.Path.{_≡_, ap, sym, _∙_}
+use mathlib.Core.List.{List, [], _∷_, _++_, map}
+use native.Mathlib.Omega.{arith}
+use native.Mathlib.Numerals.{add-one}
+use native.Mathlib.Decide.{decLe}
+use lib.ListN.{length, take, drop, getD, replicate, length-take, length-map, drop-of-length-le}
+use lib.Seq.{drop-cons, getD-take, take-all}
+
+pub record Walk {A : Type 0} (l : List A) (size n i : ℕ) : Type 0 where
+  pub long : length l ≡ size
+  pub counted : n ≤ size
+  pub passed : i ≤ n
+
+module _ {A : Type 0} {l : List A} {size n : ℕ} where
+  pub walk-none : length l ≡ size → n ≤ size → Walk l size n 0
+  walk-none h k = record { long = h; counted = k; passed = omega arith }
+
+  pub walk-more : {i : ℕ} → Walk l size n i → i < n → Walk l size n (i + 1)
+  walk-more s h = record { long = s .long; counted = s .counted; passed = omega arith }
+
+  -- what is left: an element and the rest, or nothing
+  pub walk-cons : (d : A) {i : ℕ} → Walk l size n i → i < n → drop i (take n l) ≡ getD l i d ∷ drop (i + 1) (take n l)
+  walk-cons d {i} s h =
+      let e : i < length (take n l) = omega (arith, length-take n l) in
+      rw add-one (drop-cons (take n l) i d e ∙ rw (getD-take n l i d h))
+
+  pub walk-nil : {i : ℕ} → Walk l size n i → n ≤ i → drop i (take n l) ≡ []
+  walk-nil {i} s h = drop-of-length-le (take n l) {i = i} (omega (arith, length-take n l))
+
+-- what is left of a run, or of some blanks, is one element and the rest
+pub drop-one : {A : Type 0} (d : A) (s : List A) (j : ℕ) → j < length s → drop j s ≡ (getD s j d ∷ []) ++ drop (j + 1) s
+drop-one d s j h = rw (add-one, drop-cons s j d)
+
+pub blanks-one : {A : Type 0} (b : A) (n j : ℕ) → j < n → replicate (n - j) b ≡ (b ∷ []) ++ replicate (n - (j + 1)) b
+blanks-one b n j h = let e : n - j ≡ suc (n - (j + 1)) = omega arith in rw e
+
+-- the number of an array's elements, from what owning it tells
+pub length-mapped : {X Y : Type 0} (f : X → Y) (l : List X) (n : ℕ) → length (map f l) ≡ n → length l ≡ n
+length-mapped f l n e = rw length-map at e
+
+-- a count past the size is as good as the size
+pub take-cap : {A : Type 0} (l : List A) (n k size : ℕ) → length l ≡ size → n ≡ min k size → take n l ≡ take k l
+take-cap l n k size h e = go (decLe k size)
+  where
+    go : Dec (k ≤ size) → take n l ≡ take k l
+    go (yes p) = let q : n ≡ k = omega arith in ap (λ m. take m l) q
+    go (no p) = take-all n l (omega arith) ∙ sym (take-all k l (omega arith))

@@ -1,0 +1,5 @@
+pub mod Lists
+pub mod Order
+pub mod Tables
+pub mod Bytes
+pub mod Pages

@@ -1,0 +1,1 @@
+// Definitions on lists and their laws: specs/ and proofs/ alone, no code.

@@ -1,0 +1,5 @@
+pub mod Cases
+pub mod Getters
+pub mod Lengths
+pub mod Stood
+pub mod Unchanged

@@ -1,0 +1,80 @@
+-- What a standing coordinator gives: each rule of refusal 2 by its name, and its counts as bounds.
+use Prim.Native.Nat.{ℕ, _≤_}
+use mathlib.Core.Path.{_≡_}
+use mathlib.Core.Bool.{true}
+use lib.Dec.{leb}
+use Rattle.lists.specs.Lists.{all}
+use Rattle.lists.proofs.Tests.{and-true}
+use borrow.Author.Tests.{leb-true}
+use Rattle.paper.specs.Tables.{acesOf}
+use Rattle.paper.specs.Standing.{setupStands, countsStand, identifiersStand, proxiesStand, luacdsStand, listsStand, formsStand, tokensStand, referencesStand, noClash, generationStands, offStands, standing, fewLuacds}
+use Rattle.paper.specs.declared.state.Coordinator.{Coordinator}
+
+pub record Stood (c : Coordinator) : Type 0 where
+  pub setup : setupStands c ≡ true
+  pub counts : countsStand c ≡ true
+  pub identifiers : identifiersStand c ≡ true
+  pub proxies : proxiesStand c ≡ true
+  pub luacds : luacdsStand c ≡ true
+  pub lists : listsStand c ≡ true
+  pub forms : formsStand c ≡ true
+  pub tokens : tokensStand c ≡ true
+  pub references : referencesStand c ≡ true
+  pub clashes : noClash c ≡ true
+  pub generation : generationStands c ≡ true
+  pub off : offStands c ≡ true
+
+pub stood : (c : Coordinator) → standing c ≡ true → Stood c
+unfolding standing
+stood c h =
+    let a = and-true (setupStands c) _ h in
+    let b = and-true (countsStand c) _ (a .1) in
+    let d = and-true (identifiersStand c) _ (b .1) in
+    let e = and-true (proxiesStand c) _ (d .1) in
+    let f = and-true (luacdsStand c) _ (e .1) in
+    let g = and-true (listsStand c) _ (f .1) in
+    let i = and-true (formsStand c) _ (g .1) in
+    let j = and-true (tokensStand c) _ (i .1) in
+    let k = and-true (referencesStand c) _ (j .1) in
+    let l = and-true (noClash c) _ (k .1) in
+    let m = and-true (generationStands c) _ (l .1) in
+    record {
+      setup = a .0;
+      counts = b .0;
+      identifiers = d .0;
+      proxies = e .0;
+      luacds = f .0;
+      lists = g .0;
+      forms = i .0;
+      tokens = j .0;
+      references = k .0;
+      clashes = l .0;
+      generation = m .0;
+      off = m .1;
+    }
+
+-- no count passes its size
+pub record Counted (c : Coordinator) : Type 0 where
+  pub few-initiators : c .initiators .count ≤ 16
+  pub few-units : c .units .count ≤ 32
+  pub few-aces : c .acl .count ≤ 32
+  pub few-luacds : all fewLuacds (acesOf c) ≡ true
+  pub few-tokens : c .tokens .count ≤ 32
+  pub few-proxies : c .proxies .count ≤ 32
+
+pub counted : (c : Coordinator) → countsStand c ≡ true → Counted c
+unfolding countsStand
+counted c h =
+    let a = and-true (leb (c .initiators .count) 16) _ h in
+    let b = and-true (leb (c .units .count) 32) _ (a .1) in
+    let d = and-true (leb (c .acl .count) 32) _ (b .1) in
+    let e = and-true (all fewLuacds (acesOf c)) _ (d .1) in
+    let f = and-true (leb (c .tokens .count) 32) _ (e .1) in
+    record {
+      few-initiators = leb-true _ _ (a .0);
+      few-units = leb-true _ _ (b .0);
+      few-aces = leb-true _ _ (d .0);
+      few-luacds = e .0;
+      few-tokens = leb-true _ _ (f .0);
+      few-proxies = leb-true _ _ (f .1);
+    }

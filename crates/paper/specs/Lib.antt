@@ -1,0 +1,14 @@
+pub mod Sizes
+pub mod Identifiers
+pub mod Answers
+pub mod Tables
+pub mod Setup
+pub mod Rows
+pub mod Standing
+pub mod Orders
+pub mod Pages
+pub mod Effects
+pub mod Tests
+pub mod Reports
+pub mod Outcomes
+pub mod History

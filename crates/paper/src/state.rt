@@ -1,0 +1,203 @@
+// The state: one struct a table, each with its count and its array.
+// A LUN is kept as its first two bytes, as one number: the other six are zero in every LUN of the form that document 01 asks for.
+ghost use mathlib.Core.Path.{_≡_};
+ghost use mathlib.Core.List.{[]};
+ghost use Rattle.paper.specs.Tables.{noLuacd, noAce, noToken, noProxy, aclOf, tokenTable, proxyTable, initiatorTable, unitTable};
+ghost use Rattle.paper.specs.Setup.{fresh};
+
+// What an identifier is.
+pub enum IdType {
+    AccessId,
+    TransportId,
+}
+
+// What an ACE holds: a list, or everything.
+pub enum Extent {
+    Listed,
+    Everything,
+}
+
+// A unit at a LUN.
+pub struct Luacd {
+    pub lun: u16,
+    pub unit: u8,
+}
+
+pub struct Ace {
+    pub kind: IdType,
+    pub extent: Extent,
+    pub id: [u8; 24],
+    pub count: usize,
+    pub luacds: [Luacd; 16],
+}
+
+pub struct Acl {
+    pub count: usize,
+    pub items: [Ace; 32],
+}
+
+// A live token: its number, the unit that it opens, who got it and by naming which LUN.
+pub struct Token {
+    pub number: u64,
+    pub unit: u8,
+    pub requester: u8,
+    pub lun: u16,
+}
+
+pub struct Tokens {
+    pub count: usize,
+    pub items: [Token; 32],
+}
+
+// A proxy LUN: whose it is, and the number of the live token that it stands on.
+pub struct ProxyLun {
+    pub initiator: u8,
+    pub lun: u16,
+    pub token: u64,
+}
+
+pub struct ProxyLuns {
+    pub count: usize,
+    pub items: [ProxyLun; 32],
+}
+
+// The initiators: 24 bytes of TransportID each, and 25 bytes of enrolment each, the stage and the AccessID.
+pub struct Initiators {
+    pub count: usize,
+    pub ids: [u8; 384],
+    pub enrolments: [u8; 400],
+}
+
+// The units: their default LUNs.
+pub struct Units {
+    pub count: usize,
+    pub luns: [u16; 32],
+}
+
+pub struct Coordinator {
+    pub enabled: bool,
+    pub generation: u32,
+    pub key: u64,
+    pub initiators: Initiators,
+    pub units: Units,
+    pub acl: Acl,
+    pub tokens: Tokens,
+    pub proxies: ProxyLuns,
+}
+
+// The ground of a row, by the paper's letter.
+pub enum Ground {
+    GroundA,
+    GroundO,
+    GroundT,
+    GroundW,
+    GroundX,
+}
+
+pub struct Row {
+    pub initiator: u8,
+    pub lun: u16,
+    pub unit: u8,
+    pub ground: Ground,
+}
+
+pub fn no_luacd() -> Luacd
+    ensures { λ r. ⌜ r ≡ noLuacd ⌝ }
+{
+    Luacd { lun: 0, unit: 0 }
+}
+
+pub fn no_ace() -> Ace
+    ensures { λ r. ⌜ r ≡ noAce ⌝ }
+{
+    Ace {
+        kind: IdType::AccessId,
+        extent: Extent::Listed,
+        id: [0; 24],
+        count: 0,
+        luacds: [no_luacd(); 16],
+    }
+}
+
+pub fn no_acl() -> Acl
+    ensures { λ r. ⌜ r ≡ aclOf [] ⌝ }
+{
+    Acl {
+        count: 0,
+        items: [no_ace(); 32],
+    }
+}
+
+pub fn no_token() -> Token
+    ensures { λ r. ⌜ r ≡ noToken ⌝ }
+{
+    Token {
+        number: 0,
+        unit: 0,
+        requester: 0,
+        lun: 0,
+    }
+}
+
+pub fn no_tokens() -> Tokens
+    ensures { λ r. ⌜ r ≡ tokenTable [] ⌝ }
+{
+    Tokens {
+        count: 0,
+        items: [no_token(); 32],
+    }
+}
+
+pub fn no_proxy() -> ProxyLun
+    ensures { λ r. ⌜ r ≡ noProxy ⌝ }
+{
+    ProxyLun {
+        initiator: 0,
+        lun: 0,
+        token: 0,
+    }
+}
+
+pub fn no_proxies() -> ProxyLuns
+    ensures { λ r. ⌜ r ≡ proxyTable [] ⌝ }
+{
+    ProxyLuns {
+        count: 0,
+        items: [no_proxy(); 32],
+    }
+}
+
+pub fn no_initiators() -> Initiators
+    ensures { λ r. ⌜ r ≡ initiatorTable [] ⌝ }
+{
+    Initiators {
+        count: 0,
+        ids: [0; 384],
+        enrolments: [0; 400],
+    }
+}
+
+pub fn no_units() -> Units
+    ensures { λ r. ⌜ r ≡ unitTable [] ⌝ }
+{
+    Units {
+        count: 0,
+        luns: [0; 32],
+    }
+}
+
+// A fresh coordinator is disabled and starts with every table empty.
+pub fn fresh_coordinator() -> Coordinator
+    ensures { λ r. ⌜ r ≡ fresh [] [] ⌝ }
+{
+    Coordinator {
+        enabled: false,
+        generation: 0,
+        key: 0,
+        initiators: no_initiators(),
+        units: no_units(),
+        acl: no_acl(),
+        tokens: no_tokens(),
+        proxies: no_proxies(),
+    }
+}

@@ -1,0 +1,2 @@
+pub mod Lun
+pub mod Write
