@@ -7,6 +7,8 @@ use native.Mathlib.Numerals.{add-one}
 use native.Mathlib.Decide.{decLe}
 use lib.ListN.{length, take, drop, getD, replicate, length-take, length-map, drop-of-length-le}
 use lib.Seq.{drop-cons, getD-take, take-all}
+use mathlib.Core.Bool.{Bool, true, false}
+use Rattle.lists.specs.Lists.{placeOf}
 
 pub record Walk {A : Type 0} (l : List A) (size n i : ℕ) : Type 0 where
   pub long : length l ≡ size
@@ -47,3 +49,49 @@ take-cap l n k size h e = go (decLe k size)
     go : Dec (k ≤ size) → take n l ≡ take k l
     go (yes p) = let q : n ≡ k = omega arith in ap (λ m. take m l) q
     go (no p) = take-all n l (omega arith) ∙ sym (take-all k l (omega arith))
+
+-- ---- a loop over what a table has in use, whatever its count k says: it goes up to n, the count or, if that is less, the size
+pub record Scan {A : Type 0} (l : List A) (size k n i : ℕ) : Type 0 where
+  pub long : length l ≡ size
+  pub cap : n ≡ min k size
+  pub passed : i ≤ n
+
+module _ {A : Type 0} {l : List A} {size k n : ℕ} where
+  pub scan-none : length l ≡ size → n ≡ min k size → Scan l size k n 0
+  scan-none h e = record { long = h; cap = e; passed = omega arith }
+
+  pub scan-more : {i : ℕ} → Scan l size k n i → i < n → Scan l size k n (i + 1)
+  scan-more s h = record { long = s .long; cap = s .cap; passed = omega arith }
+
+  scanned : {i : ℕ} → Scan l size k n i → Walk l size n i
+  scanned s = record { long = s .long; counted = omega (arith, s .cap); passed = s .passed }
+
+  in-use : {i : ℕ} → Scan l size k n i → take n l ≡ take k l
+  in-use s = take-cap l n k size (s .long) (s .cap)
+
+  -- what is left of the entries in use: one and the rest, or nothing
+  pub scan-cons : (d : A) {i : ℕ} → Scan l size k n i → i < n → drop i (take k l) ≡ getD l i d ∷ drop (i + 1) (take k l)
+  scan-cons d s h = rw (in-use s) at (walk-cons d (scanned s) h)
+
+  pub scan-nil : {i : ℕ} → Scan l size k n i → n ≤ i → drop i (take k l) ≡ []
+  scan-nil s h = rw (in-use s) at (walk-nil (scanned s) h)
+
+-- ---- a loop that looks for a place: it has passed i, and what is left has the rest of it
+pub record Placing {A : Type 0} (p : A → Bool) (total i : ℕ) (rest : List A) : Type 0 where
+  pub place : total ≡ i + placeOf p rest
+
+pub place-first : {A : Type 0} (p : A → Bool) (l : List A) → Placing p (placeOf p l) 0 l
+place-first p l = record { place = omega arith }
+
+module _ {A : Type 0} {p : A → Bool} {total i : ℕ} {rest : List A} (s : Placing p total i rest) where
+  pub place-here : {x : A} {r : List A} → rest ≡ x ∷ r → p x ≡ true → total ≡ i
+  unfolding placeOf
+  place-here q h = s .place ∙ rw (q, h) (omega arith)
+
+  pub place-later : {x : A} {r : List A} → rest ≡ x ∷ r → p x ≡ false → Placing p total (i + 1) r
+  unfolding placeOf
+  place-later q h = record { place = s .place ∙ rw (q, h) (omega arith) }
+
+  pub place-nowhere : rest ≡ [] → total ≡ i
+  unfolding placeOf
+  place-nowhere q = s .place ∙ rw q (omega arith)
