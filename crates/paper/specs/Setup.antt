@@ -9,7 +9,7 @@ use Rattle.lists.specs.Bytes.{be, sameBytes}
 use Rattle.wire.specs.Lun.{lunForm, headOf}
 use Rattle.paper.specs.Sizes.{maxInitiators, maxUnits, idSize}
 use Rattle.paper.specs.Identifiers.{validTransport}
-use Rattle.paper.specs.Tables.{initiatorTable, unitTable, aclOf, tokenTable, proxyTable}
+use Rattle.paper.specs.Tables.{coordinatorOf, initiatorTable, unitTable, aclOf, tokenTable, proxyTable}
 use Rattle.paper.specs.declared.state.Coordinator.{Coordinator}
 use Rattle.paper.specs.declared.outcomes.Started.{Started}
 use Rattle.paper.specs.declared.answers.Refusal.the-variants.{BadSetup}
@@ -43,16 +43,7 @@ accepted ids luns =
 -- "Initiators and units are numbered from 0 in setup order. A fresh coordinator is disabled and starts with every table empty."
 unfoldable pub fresh : List (List ℕ) → List ℕ → Coordinator
 fresh ids heads =
-    record {
-      enabled = false;
-      generation = 0;
-      key = 0;
-      initiators = initiatorTable ids;
-      units = unitTable heads;
-      acl = aclOf [];
-      tokens = tokenTable [];
-      proxies = proxyTable [];
-    }
+    coordinatorOf false 0 0 (initiatorTable ids) (unitTable heads) (aclOf []) (tokenTable []) (proxyTable [])
 
 -- "1: setup breaks the rules above (at setup only); a coordinator without initiators and units comes back"
 unfoldable pub started : List ℕ → List ℕ → Started

@@ -120,84 +120,43 @@ tokensOf c = take (c .tokens .count) (c .tokens .items)
 abbrev pub proxiesOf : Coordinator → List ProxyLun
 proxiesOf c = take (c .proxies .count) (c .proxies .items)
 
--- ---- the coordinator with another table. Record literals of a coordinator stand here alone
-abbrev pub withSwitch : Coordinator → Bool → ℕ → ℕ → Coordinator
-withSwitch c on generation key =
+-- ---- the coordinator with another table. The one record literal of a coordinator stands here
+abbrev pub coordinatorOf : Bool → ℕ → ℕ → Initiators → Units → Acl → Tokens → ProxyLuns → Coordinator
+coordinatorOf on generation key initiators units acl tokens proxies =
     record {
       enabled = on;
       generation = generation;
       key = key;
-      initiators = c .initiators;
-      units = c .units;
-      acl = c .acl;
-      tokens = c .tokens;
-      proxies = c .proxies;
+      initiators = initiators;
+      units = units;
+      acl = acl;
+      tokens = tokens;
+      proxies = proxies;
     }
+
+abbrev pub withSwitch : Coordinator → Bool → ℕ → ℕ → Coordinator
+withSwitch c on generation key =
+    coordinatorOf on generation key (c .initiators) (c .units) (c .acl) (c .tokens) (c .proxies)
 
 abbrev pub withInitiators : Coordinator → Initiators → Coordinator
 withInitiators c t =
-    record {
-      enabled = c .enabled;
-      generation = c .generation;
-      key = c .key;
-      initiators = t;
-      units = c .units;
-      acl = c .acl;
-      tokens = c .tokens;
-      proxies = c .proxies;
-    }
+    coordinatorOf (c .enabled) (c .generation) (c .key) t (c .units) (c .acl) (c .tokens) (c .proxies)
 
 abbrev pub withUnits : Coordinator → Units → Coordinator
 withUnits c t =
-    record {
-      enabled = c .enabled;
-      generation = c .generation;
-      key = c .key;
-      initiators = c .initiators;
-      units = t;
-      acl = c .acl;
-      tokens = c .tokens;
-      proxies = c .proxies;
-    }
+    coordinatorOf (c .enabled) (c .generation) (c .key) (c .initiators) t (c .acl) (c .tokens) (c .proxies)
 
 abbrev pub withAcl : Coordinator → Acl → Coordinator
 withAcl c t =
-    record {
-      enabled = c .enabled;
-      generation = c .generation;
-      key = c .key;
-      initiators = c .initiators;
-      units = c .units;
-      acl = t;
-      tokens = c .tokens;
-      proxies = c .proxies;
-    }
+    coordinatorOf (c .enabled) (c .generation) (c .key) (c .initiators) (c .units) t (c .tokens) (c .proxies)
 
 abbrev pub withTokenTable : Coordinator → Tokens → Coordinator
 withTokenTable c t =
-    record {
-      enabled = c .enabled;
-      generation = c .generation;
-      key = c .key;
-      initiators = c .initiators;
-      units = c .units;
-      acl = c .acl;
-      tokens = t;
-      proxies = c .proxies;
-    }
+    coordinatorOf (c .enabled) (c .generation) (c .key) (c .initiators) (c .units) (c .acl) t (c .proxies)
 
 abbrev pub withProxyTable : Coordinator → ProxyLuns → Coordinator
 withProxyTable c t =
-    record {
-      enabled = c .enabled;
-      generation = c .generation;
-      key = c .key;
-      initiators = c .initiators;
-      units = c .units;
-      acl = c .acl;
-      tokens = c .tokens;
-      proxies = t;
-    }
+    coordinatorOf (c .enabled) (c .generation) (c .key) (c .initiators) (c .units) (c .acl) (c .tokens) t
 
 abbrev pub withAces : Coordinator → List Ace → Coordinator
 withAces c l = withAcl c (aclOf l)
