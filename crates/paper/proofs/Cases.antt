@@ -3,7 +3,6 @@
 use Prim.Native.Nat.{ℕ, _+_, _*_}
 use mathlib.Core.Path.{_≡_, refl}
 use mathlib.Core.List.{List, [], _∷_, _++_, map}
-use mathlib.Core.Bool.{Bool, true, false}
 use lib.ListN.{length, replicate}
 use Rattle.lists.specs.Lists.{find, placeOf, keep, any, all, pairs, gather, parts, count}
 use Rattle.lists.specs.Order.{insert, sort}
@@ -22,7 +21,6 @@ use Rattle.paper.specs.Tests.{malformed, tooMany, manageTests, keyTests,
 use Rattle.paper.specs.Reports.{luacdBytes, identifierBytes, aceBytes, tokenBytes, proxyPage, reportPages, reportBytes, rowBefore, reachRows, rowBytes, reachBytes}
 use Rattle.paper.specs.Outcomes.{replyTo, decideOrder, decideReading, decideCommand, decideLink, outcomeOf}
 use Rattle.paper.specs.History.{Setup, command, link, Sent, Run, run, decideStatement}
-use Rattle.paper.specs.declared.state.Luacd.{Luacd}
 use Rattle.paper.specs.declared.answers.Condition.the-variants.{Clash}
 
 -- ---- one initiator, TransportID all zero; units 0, 1 and 2 at the default LUNs 5, 6 and 7

@@ -1,16 +1,13 @@
 -- Getters after setters: what was put into a table is what is read from it.
 use Prim.Native.Nat.{ℕ, suc}
-use mathlib.Core.Path.{_≡_, refl, ap, sym, _∙_}
-use mathlib.Core.List.{List, [], _∷_, _++_, map}
-use mathlib.Core.Bool.{true, false}
+use mathlib.Core.Path.{_≡_, refl, ap}
+use mathlib.Core.List.{List, [], _∷_, map}
 use native.Mathlib.Omega.{arith}
-use lib.ListN.{length, take, replicate, length-take, length-map, length-append, length-replicate}
-use Rattle.lists.specs.Lists.{_∈_, parts, gather}
-use Rattle.lists.specs.Tables.{pad}
+use lib.ListN.{length, take, length-take, length-map}
 use Rattle.lists.proofs.Tables.{take-pad, length-pad}
 use Rattle.lists.proofs.Parts.{length-parts, parts-gather}
 use Rattle.paper.specs.Sizes.{maxAces, maxTokens, maxProxies, maxUnits, maxLuacds, idSize, enrolmentSize}
-use Rattle.paper.specs.Identifiers.{comparedBytes, kept}
+use Rattle.paper.specs.Identifiers.{kept}
 use Rattle.paper.specs.Setup.{fresh}
 use Rattle.paper.specs.Tables.{Content, these, everything, Enrolment, notEnrolled, enrolled, pending, noAce, noToken, noProxy, noLuacd, aceOf, contentOf, enrolmentIn, enrolmentBytes, acesOf, tokensOf, proxiesOf, unitsOf, transportsOf, enrolmentsOf, withAces, withTokens, withProxies, withEnrolments}
 use Rattle.paper.specs.declared.state.IdType.{IdType}

@@ -1,17 +1,15 @@
 -- Sizes of the two reports in closed form, and the largest of each: they bound every writer.
-use Prim.Native.Nat.{ℕ, zero, suc, _+_, _*_, _≤_, _<_}
-use mathlib.Core.Path.{_≡_, refl, ap, sym, _∙_}
-use mathlib.Core.List.{List, [], _∷_, _++_, map}
+use Prim.Native.Nat.{ℕ, zero, suc, _+_, _*_, _≤_}
+use mathlib.Core.Path.{_≡_, refl, ap}
+use mathlib.Core.List.{List, [], _∷_, _++_}
 use mathlib.Core.Option.{Option, some, none}
 use mathlib.Core.Bool.{Bool, true, false, cond}
 use native.Mathlib.Omega.{arith}
-use lib.ListN.{length, take, length-append, length-take, length-replicate, length-map}
-use lib.Dec.{eqb, leb}
-use borrow.Author.Tests.{leb-true, eqb-true, ne-eqb}
-use Rattle.lists.specs.Lists.{_∈_, here, there, find, keep, any, all, gather, count, below}
-use Rattle.lists.specs.Order.{insert, sort}
+use lib.ListN.{length, take, length-append, length-take, length-map}
+use borrow.Author.Tests.{leb-true}
+use Rattle.lists.specs.Lists.{_∈_, keep, gather, count, below}
+use Rattle.lists.specs.Order.{sort}
 use Rattle.lists.specs.Bytes.{beBytes}
-use Rattle.lists.proofs.Tests.{split}
 use Rattle.lists.proofs.Members.{all-in, find-in, length-keep}
 use Rattle.lists.proofs.Bytes.{bytes-length}
 use Rattle.lists.proofs.Parts.{length-gather, length-count}
@@ -20,7 +18,7 @@ use Rattle.lists.proofs.Order.{length-sort}
 use Rattle.paper.specs.Sizes.{idSize}
 use Rattle.paper.specs.Identifiers.{kept}
 use Rattle.paper.specs.Tables.{Content, these, everything, Enrolment, notEnrolled, enrolled, pending, contentBy, contentOf, unitsOf, acesOf, tokensOf, proxiesOf, enrolmentOf, transportOf}
-use Rattle.paper.specs.Rows.{aceFor, contentIn, contentFor, isFor, numbered, held, rowsAt, transportRows, enrolmentRows, tokenFor, proxyRow, rowOfProxy, ownedBy, proxyRows, openRows, rowsOf}
+use Rattle.paper.specs.Rows.{aceFor, contentIn, contentFor, isFor, numbered, held, transportRows, enrolmentRows, tokenFor, proxyRow, rowOfProxy, ownedBy, proxyRows, openRows, rowsOf}
 use Rattle.paper.specs.Standing.{listedIn, luacdsOf, fewLuacds}
 use Rattle.paper.specs.Reports.{luacdBytes, identifierBytes, grantedBytes, aceBytes, aceBefore, luacdBefore, tokenBefore, tokenBytes, proxyPage, reportPages, reportBytes, reachRows, rowBytes, reachBytes}
 use Rattle.paper.proofs.Getters.{length-kept}

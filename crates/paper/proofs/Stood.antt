@@ -1,5 +1,5 @@
 -- What a standing coordinator gives: each rule of refusal 2 by its name, and its counts as bounds.
-use Prim.Native.Nat.{ℕ, _≤_}
+use Prim.Native.Nat.{_≤_}
 use mathlib.Core.Path.{_≡_}
 use mathlib.Core.Bool.{true}
 use lib.Dec.{leb}

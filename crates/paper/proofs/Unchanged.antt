@@ -3,7 +3,6 @@ use Prim.Native.Nat.{ℕ}
 use mathlib.Core.Path.{_≡_, refl}
 use mathlib.Core.List.{List}
 use lib.ListN.{length}
-use Rattle.lists.specs.Bytes.{deliver}
 use Rattle.lists.proofs.Deliver.{length-deliver}
 use Rattle.paper.specs.Outcomes.{Decision, refuse, check, good, outcomeOf, bufferAfter}
 use Rattle.paper.specs.declared.state.Coordinator.{Coordinator}

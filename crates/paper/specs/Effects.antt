@@ -8,9 +8,8 @@ use lib.Dec.{eqb}
 use Rattle.lists.specs.Lists.{keep, any}
 use Rattle.wire.specs.Lun.{lunOf, headOf}
 use Rattle.paper.specs.Identifiers.{sameId}
-use Rattle.paper.specs.Setup.{fresh}
 use Rattle.paper.specs.Standing.{holdsNothing}
-use Rattle.paper.specs.Tables.{Content, these, everything, Enrolment, notEnrolled, enrolled, pending, aceOf, enrolmentsOf, enrolmentOf, acesOf, tokensOf, proxiesOf, withSwitch, withAces, withTokens, withProxies, withEnrolments}
+use Rattle.paper.specs.Tables.{Content, Enrolment, notEnrolled, enrolled, pending, aceOf, enrolmentsOf, enrolmentOf, acesOf, tokensOf, proxiesOf, withSwitch, withAces, withTokens, withProxies, withEnrolments}
 use Rattle.paper.specs.Rows.{isFor, tokenFor, rowsOf, rowWith, isTA}
 use Rattle.paper.specs.declared.state.IdType.{IdType}
 use Rattle.paper.specs.declared.state.IdType.the-variants.{AccessId, TransportId}

@@ -1,7 +1,7 @@
 -- Identifiers: TransportIDs and AccessIDs.
 use Prim.Native.Nat.{ℕ}
 use mathlib.Core.List.{List}
-use mathlib.Core.Bool.{Bool, true, false, _&&_, _||_}
+use mathlib.Core.Bool.{Bool, _&&_, _||_}
 use lib.ListN.{length, getD, take}
 use lib.Dec.{eqb, ltb}
 use Rattle.lists.specs.Bytes.{sameBytes, lessBytes}

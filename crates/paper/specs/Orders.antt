@@ -1,7 +1,7 @@
 -- "Order: operation code, service action, lengths, then as each command says." What a command's bytes ask for, or the condition that they meet first.
 use Prim.Native.Nat.{ℕ, _%_}
 use mathlib.Core.List.{List}
-use mathlib.Core.Bool.{Bool, cond}
+use mathlib.Core.Bool.{cond}
 use lib.ListN.{length, getD}
 use lib.Dec.{eqb, ltb}
 use Rattle.lists.specs.Bytes.{be}

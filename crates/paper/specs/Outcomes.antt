@@ -2,7 +2,7 @@
 use Prim.Native.Nat.{ℕ}
 use mathlib.Core.List.{List, [], _∷_}
 use mathlib.Core.Option.{Option, some, none}
-use mathlib.Core.Bool.{Bool, true, false, cond, not}
+use mathlib.Core.Bool.{Bool, cond, not}
 use lib.ListN.{length, take, replicate}
 use lib.Dec.{eqb, leb, ltb}
 use Rattle.lists.specs.Bytes.{beBytes, deliver}

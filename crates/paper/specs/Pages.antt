@@ -1,16 +1,16 @@
 -- "MANAGE ACL": the list, its pages, which LUACDs of a page stand, and what the list puts into effect.
 use Prim.Native.Nat.{ℕ, _-_, _/_, _%_}
 use mathlib.Core.List.{List, [], _∷_, _++_, map}
-use mathlib.Core.Bool.{Bool, true, false, cond, not, _&&_, _||_}
+use mathlib.Core.Bool.{Bool, true, cond, not, _&&_, _||_}
 use lib.ListN.{length, getD, take, drop}
-use lib.Dec.{eqb, leb, ltb}
-use Rattle.lists.specs.Lists.{any, all, pairs, parts, placeOf, gather}
+use lib.Dec.{eqb, ltb}
+use Rattle.lists.specs.Lists.{any, parts, placeOf, gather}
 use Rattle.lists.specs.Bytes.{be}
-use Rattle.lists.specs.Pages.{pagesOf, pageSize}
+use Rattle.lists.specs.Pages.{pagesOf}
 use Rattle.wire.specs.Lun.{lunOf, headOf, lunForm}
 use Rattle.paper.specs.Sizes.{idSize}
 use Rattle.paper.specs.Identifiers.{sameId, validTransport, kept}
-use Rattle.paper.specs.Tables.{Content, these, everything}
+use Rattle.paper.specs.Tables.{these, everything}
 use Rattle.paper.specs.Effects.{Effect, keyed, turnedOn, flushed, granted, ended, listed, allTokens}
 use Rattle.paper.specs.declared.state.IdType.{IdType}
 use Rattle.paper.specs.declared.state.IdType.the-variants.{AccessId, TransportId}

@@ -1,7 +1,7 @@
 -- Setup: what a coordinator starts from.
 use Prim.Native.Nat.{ℕ, _/_, _%_}
-use mathlib.Core.List.{List, [], _∷_, map}
-use mathlib.Core.Bool.{Bool, true, false, cond, not, _&&_}
+use mathlib.Core.List.{List, [], map}
+use mathlib.Core.Bool.{Bool, false, cond, not, _&&_}
 use lib.ListN.{length}
 use lib.Dec.{eqb, leb}
 use Rattle.lists.specs.Lists.{all, pairs, parts}

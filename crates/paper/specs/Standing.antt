@@ -2,9 +2,8 @@
 use Prim.Native.Nat.{ℕ}
 use mathlib.Core.List.{List, [], _∷_, map}
 use mathlib.Core.Bool.{Bool, true, false, cond, not, _&&_, _||_}
-use lib.ListN.{length, take}
 use lib.Dec.{eqb, leb, ltb}
-use Rattle.lists.specs.Lists.{any, all, pairs, isSome}
+use Rattle.lists.specs.Lists.{all, pairs, isSome}
 use Rattle.wire.specs.Lun.{lunOf, lunForm}
 use Rattle.paper.specs.Sizes.{maxInitiators, maxUnits, maxAces, maxLuacds, maxTokens, maxProxies}
 use Rattle.paper.specs.Identifiers.{sameId, validTransport}

@@ -1,12 +1,12 @@
 -- What the coordinator keeps. A table is read as the list of its entries in use, and written by one setter that puts blanks after them, so that every entry of the next state is determined.
-use Prim.Native.Nat.{ℕ, suc}
+use Prim.Native.Nat.{ℕ}
 use mathlib.Core.List.{List, [], _∷_, map}
-use mathlib.Core.Bool.{Bool, true, false, cond}
+use mathlib.Core.Bool.{Bool, cond}
 use lib.ListN.{length, getD, take, drop, replicate}
 use lib.Dec.{eqb}
 use Rattle.lists.specs.Lists.{parts, gather}
 use Rattle.lists.specs.Tables.{pad}
-use Rattle.paper.specs.Sizes.{maxInitiators, maxUnits, maxAces, maxLuacds, maxTokens, maxProxies, idSize, enrolmentSize}
+use Rattle.paper.specs.Sizes.{maxUnits, maxAces, maxLuacds, maxTokens, maxProxies, idSize, enrolmentSize}
 use Rattle.paper.specs.Identifiers.{kept}
 use Rattle.paper.specs.declared.state.IdType.{IdType}
 use Rattle.paper.specs.declared.state.IdType.the-variants.{AccessId, TransportId}

@@ -1,9 +1,7 @@
 -- What each command tests, in the paper's order, and what it puts into effect.
 use Prim.Native.Nat.{ℕ}
 use mathlib.Core.List.{List, [], _∷_}
-use mathlib.Core.Option.{Option, some, none}
-use mathlib.Core.Bool.{Bool, true, false, cond, not, _&&_, _||_}
-use lib.ListN.{take}
+use mathlib.Core.Bool.{Bool, false, cond, not, _&&_, _||_}
 use lib.Dec.{eqb, leb, ltb}
 use Rattle.lists.specs.Lists.{any, all, pairs, isSome}
 use Rattle.lists.specs.Pages.{wholePage}
@@ -18,7 +16,6 @@ use Rattle.paper.specs.Effects.{Effect, turnedOff, joined, left, issued,
 use Rattle.paper.specs.Pages.{keyIn, generationIn, acePages, badPage, sameGrant, badPlaces, manageEffects}
 use Rattle.paper.specs.declared.state.IdType.the-variants.{AccessId}
 use Rattle.paper.specs.declared.state.Ace.{Ace}
-use Rattle.paper.specs.declared.state.Row.{Row}
 use Rattle.paper.specs.declared.state.Coordinator.{Coordinator}
 use Rattle.paper.specs.declared.answers.Condition.{Condition}
 use Rattle.paper.specs.declared.answers.Condition.the-variants.{WrongLength, WrongKey, BadList, PendingEnrolled, NoAce, EnrolledElsewhere, BadLun, DeadToken, Clash, NoRoom}
