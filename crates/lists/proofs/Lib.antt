@@ -2,6 +2,7 @@ pub mod Tests
 pub mod Members
 pub mod Walk
 pub mod Tables
+pub mod Rebuild
 pub mod Bytes
 pub mod Deliver
 pub mod Pages

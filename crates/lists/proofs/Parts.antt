@@ -1,15 +1,17 @@
 -- Laws of parts of one size, of lists that elements give, and of numbers that are counted.
-use Prim.Native.Nat.{ℕ, zero, suc, _+_, _*_, _≤_, _<_}
+use Prim.Native.Nat.{ℕ, zero, suc, _+_, _*_, _≤_, _<_, _-_}
 use mathlib.Core.Path.{_≡_, refl, ap, sym, _∙_}
 use mathlib.Core.List.{List, [], _∷_, _++_, map, append-assoc}
-use mathlib.Core.Bool.{Bool}
+use mathlib.Core.Bool.{Bool, cond}
 use mathlib.Core.Logic.{⊎-elim}
 use native.Mathlib.Omega.{arith}
 use native.Mathlib.Nat.{add-zero, zero-add, suc-add, mul-zero, mul-suc, add-comm, eq-or-lt-of-le}
 use lib.ListN.{length, getD, take, drop, length-append}
 use lib.Seq.{drop-drop, take-add, take-at, drop-at}
-use Rattle.lists.specs.Lists.{_∈_, here, there, any, gather, parts, count, Different}
+use Rattle.lists.specs.Lists.{_∈_, here, there, any, gather, parts, count, Different, keep}
 use Rattle.lists.proofs.Members.{in-cons, any-append}
+use native.Mathlib.Numerals.{add-one}
+use Rattle.lists.proofs.Tests.{split}
 
 -- ---- the lists that the elements give, one after the other
 module _ {A B : Type 0} (f : A → List B) where
@@ -91,3 +93,27 @@ pub different-count : (k n : ℕ) → Different (count k n)
 unfolding count Different
 different-count k zero = tt
 different-count k (suc n) = (λ h. omega (arith, from-count (suc k) n h .0), different-count (suc k) n)
+
+-- the parts from a place on: one and the rest
+pub parts-next : {A : Type 0} (size n at : ℕ) (l : List A) → 0 < n → parts size n (drop at l) ≡ take size (drop at l) ∷ parts size (n - 1) (drop (at + size) l)
+unfolding parts
+parts-next size zero at l h = absurd (omega arith)
+parts-next size (suc n) at l h = let e : suc n - 1 ≡ n = omega arith in rw (e, drop-drop size at l)
+
+-- what the elements that pass give, one element at a time
+pub kept-none : {A B : Type 0} (f : A → List B) (p : A → Bool) → gather f (keep p []) ≡ []
+unfolding gather keep
+kept-none f p = refl
+
+pub kept-next : {A B : Type 0} (f : A → List B) (p : A → Bool) (x : A) (l : List A) → gather f (keep p (x ∷ l)) ≡ cond (p x) (f x) [] ++ gather f (keep p l)
+unfolding gather keep
+kept-next f p x l = split (p x) (λ e. simp e) (λ e. simp e)
+
+-- the numbers from i on, below n: one and the rest, or none
+pub count-next : (n i : ℕ) → i < n → count i (n - i) ≡ i ∷ count (i + 1) (n - (i + 1))
+unfolding count
+count-next n i h = let e : n - i ≡ suc (n - (i + 1)) = omega arith in rw (e, add-one)
+
+pub count-end : (n i : ℕ) → n ≤ i → count i (n - i) ≡ []
+unfolding count
+count-end n i h = let e : n - i ≡ 0 = omega arith in rw e

@@ -3,10 +3,11 @@ use Prim.Native.Nat.{ℕ, suc, _+_, _-_, _≤_, _<_}
 use mathlib.Core.Path.{_≡_, refl, ap, _∙_}
 use mathlib.Core.List.{List, [], _∷_, _++_, append-nil}
 use native.Mathlib.Omega.{arith}
-use native.Mathlib.Nat.{sub-zero}
-use lib.ListN.{length, take, getD, set, replicate, length-append, length-replicate, length-set, List·getD-append}
-use lib.Seq.{set-append-left, set-append-seam, append-snoc, take-append-seam}
+use native.Mathlib.Nat.{sub-zero, add-zero}
+use lib.ListN.{length, take, getD, set, replicate, length-append, length-replicate, length-set, List·getD-append, drop, drop-of-length-le}
+use lib.Seq.{set-append-left, set-append-seam, append-snoc, take-append-seam, sets, drop-cons}
 use Rattle.lists.specs.Tables.{pad}
+use native.Mathlib.Numerals.{add-one}
 
 module _ {A : Type 0} (b : A) (n : ℕ) (xs : List A) where
   -- what stands in a table is the list that it was made of
@@ -82,3 +83,20 @@ module _ {A : Type 0} {b : A} {size : ℕ} {target rest items : List A} {kept : 
 
   pub grown-end : rest ≡ [] → Built b size target items kept
   grown-end e = let t : target ≡ g .sofar = g .whole ∙ rw (e, append-nil) in rw t (g .built)
+
+-- a run is stored: its next element, or no more
+module _ {A : Type 0} (d : A) (l : List A) (at : ℕ) (xs : List A) (j : ℕ) where
+  pub sets-next : j < length xs → sets l (at + j) (drop j xs) ≡ sets (set l (at + j) (getD xs j d)) (at + (j + 1)) (drop (j + 1) xs)
+  sets-next h =
+      let e : at + suc j ≡ suc (at + j) = omega arith in
+      rw (drop-cons xs j d h, add-one j, e)
+
+  pub sets-end : length xs ≤ j → sets l (at + j) (drop j xs) ≡ l
+  sets-end h = rw (drop-of-length-le xs {i = j} h)
+
+-- a table is built by a run at a time
+pub grown-run : {A : Type 0} {b : A} {size : ℕ} {target rest items : List A} {kept : ℕ} (ys : List A) {rest′ : List A} → Grown b size target rest items kept → rest ≡ ys ++ rest′ → Grown b size target rest′ (sets items kept ys) (kept + length ys)
+grown-run {kept = kept} [] g e = rw (add-zero, ← e) g
+grown-run {kept = kept} (y ∷ ys) g e =
+    let f : kept + 1 + length ys ≡ kept + suc (length ys) = omega arith in
+    rw (← f, ← add-one kept) (grown-run ys (grown-step g e) refl)

@@ -8,7 +8,10 @@ use native.Mathlib.Decide.{decLe}
 use lib.ListN.{length, take, drop, getD, replicate, length-take, length-map, drop-of-length-le}
 use lib.Seq.{drop-cons, getD-take, take-all}
 use mathlib.Core.Bool.{Bool, true, false}
-use Rattle.lists.specs.Lists.{placeOf}
+use Rattle.lists.specs.Lists.{placeOf, find}
+use mathlib.Core.Option.{some, none}
+use borrow.Author.Tests.{lt-ltb, le-ltb}
+use Rattle.lists.proofs.Members.{place-any, place-find, none-find, any-none}
 
 pub record Walk {A : Type 0} (l : List A) (size n i : ℕ) : Type 0 where
   pub long : length l ≡ size
@@ -95,3 +98,18 @@ module _ {A : Type 0} {p : A → Bool} {total i : ℕ} {rest : List A} (s : Plac
   pub place-nowhere : rest ≡ [] → total ≡ i
   unfolding placeOf
   place-nowhere q = s .place ∙ rw q (omega arith)
+
+-- a table of which n entries are in use, its count or, if that is less, its size, and the place of the first that passes
+module _ {A : Type 0} (p : A → Bool) (items : List A) (size given : ℕ) {n place : ℕ} (long : length items ≡ size) (cap : n ≡ min given size) (at : place ≡ placeOf p (take given items)) where
+  pub found-at : (d : A) → place < n → find p (take given items) ≡ some (getD items place d)
+  found-at d h =
+      let l = take given items in
+      let e : placeOf p l < length l = omega (arith, length-take given items) in
+      place-find p d l (sym (place-any p l) ∙ lt-ltb (placeOf p l) (length l) e)
+      ∙ rw (← at, getD-take given items place d (omega arith))
+
+  pub found-nowhere : n ≤ place → find p (take given items) ≡ none
+  found-nowhere h =
+      let l = take given items in
+      let e : length l ≤ placeOf p l = omega (arith, length-take given items) in
+      none-find p l (λ x m. any-none p (sym (place-any p l) ∙ le-ltb (placeOf p l) (length l) e) m)

@@ -1,0 +1,22 @@
+use borrow.Author.Needs.{needs}
+use borrow.Author.Tests.{eq-eqb, ne-eqb}
+use Rattle.lists.proofs.Pages.{rest-is}
+use Rattle.paper.specs.Rows.{enrolmentRows}
+use Rattle.rows.proofs.Appending.{join-none}
+use Rattle.rows.proofs.building.with_enrolment.Statement.{statement}
+use Rattle.rows.proofs.building.with_enrolment.Tie as tie
+
+pub with-enrolment-spec : {M : Type 1} → statement M
+unfolding enrolmentRows
+with-enrolment-spec =
+    tie.close
+    (tie.spec
+    (λ c. search needs)
+    (λ c. search needs)
+    (λ c. search needs)
+    (λ c. search needs)
+    (λ c κs. search needs)
+    (λ c. rw (eq-eqb _ _ (c .before .if1 .taken)) (rw rest-is at (c .with-held .ensures)))
+    (λ c κs. search needs)
+    (λ c. rw (ne-eqb _ _ (c .before .before .if1 .left), eq-eqb _ _ (c .before .if2 .taken)) (rw rest-is at (c .with-held2 .ensures)))
+    (λ c. rw (ne-eqb _ _ (c .before .if1 .left), ne-eqb _ _ (c .if2 .left)) (join-none _ _)))

@@ -1,0 +1,46 @@
+use Prim.Native.Nat.{_-_, _≤_}
+use native.Mathlib.Numerals.{add-one}
+use native.Mathlib.Omega.{arith}
+use borrow.Author.Needs.{needs}
+use lib.ListN.{take, drop}
+use Rattle.lists.proofs.Walk.{Scan, scan-none, scan-more, scan-cons, scan-nil, length-mapped}
+use Rattle.paper.specs.Rows.{numbered, rowsAt}
+use Rattle.rows.proofs.Appending.{Appending, append-none, append-row, append-end}
+use Rattle.rows.proofs.building.with_units.Statement.{statement}
+use Rattle.rows.proofs.building.with_units.Tie as tie
+
+abbrev Inv : tie.InvT-loop
+Inv i g given count luns next₀ k₀ next k =
+    Scan luns 32 given count k
+    × Appending next₀ (rowsAt i g (numbered 0 (take given luns))) (rowsAt i g (numbered k (drop k (take given luns)))) next k
+    × (next₀ .count ≤ 64)
+
+abbrev μ : tie.MeasureT-loop
+μ i g given count luns next₀ k₀ next k = count - k
+
+pub with-units-spec : {M : Type 1} → statement M
+unfolding numbered
+with-units-spec =
+    tie.close
+    (tie.spec
+    Inv
+    μ
+    (λ c κs. search needs)
+    (λ c. (scan-none (search (length-mapped, needs)) (search needs), append-none _ _, search needs))
+    (λ c. omega arith)
+    (λ c. omega arith)
+    (λ c. omega arith)
+    (λ c κs. search needs)
+    (λ c κs. omega arith)
+    (λ c. omega arith)
+    (λ c. omega arith)
+    (λ c.
+    let a = c .before .before in
+    let v = a .before .loop .inv in (
+      scan-more (v .0) (a .loop-test .taken),
+      append-row (v .1) (c .pushed .ensures) (rw (c .before .row-at .ensures, scan-cons 0 (v .0) (a .loop-test .taken), add-one)),
+      v .2,
+    ))
+    (λ c.
+    let v = c .before .loop .inv in
+    append-end (v .1) (rw (scan-nil (v .0) (c .loop-test .left))) (omega arith)))

@@ -1,0 +1,4 @@
+pub mod Append
+pub mod Asked
+pub mod Initiator
+pub mod Table

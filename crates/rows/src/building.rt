@@ -1,0 +1,224 @@
+// The rows of an initiator, built from the tables: each function appends the rows of one ground to those that there are.
+ghost use mathlib.Core.Path.{_≡_};
+ghost use Prim.Native.Nat.{_<_, _≤_};
+ghost use lib.ListN.{take, length};
+ghost use Rattle.lists.specs.Lists.{keep, gather};
+ghost use Rattle.paper.specs.Tables.{enrolmentIn, enrolmentOf, contentOf};
+ghost use Rattle.paper.specs.Rows.{contentFor, allUnits, held, rowAt, rowsAt, transportRows, enrolmentRows, ownedBy, rowOfProxy, rowsOf};
+ghost use Rattle.rows.specs.Table.{rowTable};
+ghost use Rattle.rows.specs.Append.{pushedRow, Joined, rowsOfProxy};
+ghost use Rattle.rows.specs.Initiator.{InSetup};
+use crate::table;
+use crate::table::Rows;
+use paper::state::Ace;
+use paper::state::Acl;
+use paper::state::Coordinator;
+use paper::state::Extent;
+use paper::state::Ground;
+use paper::state::IdType;
+use paper::state::Luacd;
+use paper::state::ProxyLun;
+use paper::state::ProxyLuns;
+use paper::state::Row;
+use paper::state::Tokens;
+use paper::state::Units;
+use tables::lookups;
+use tables::lookups::TokenFound;
+use tables::lookups::capped;
+
+// The rows, and one more.
+fn pushed(rows: Rows, x: Row) -> Rows
+    requires { ⌜ rows .count < 96 ⌝ }
+    ensures { λ r. ⌜ r ≡ pushedRow rows x ⌝ }
+{
+    let n = rows.count;
+    let mut next = rows;
+    next.items[n] = x;
+    next.count = n + 1;
+    next
+}
+
+fn row_at(i: u8, g: Ground, p: Luacd) -> Row
+    ensures { λ r. ⌜ r ≡ rowAt i g p ⌝ }
+{
+    Row {
+        initiator: i,
+        lun: p.lun,
+        unit: p.unit,
+        ground: g,
+    }
+}
+
+// The rows of the LUACDs that an ACE lists.
+fn with_listed(rows: Rows, i: u8, g: Ground, a: Ace) -> Rows
+    requires { ⌜ rows .count ≤ 64 ⌝ }
+    ensures { λ r. ⌜ Joined 32 rows (rowsAt i g (take (a .count) (a .luacds))) r ⌝ }
+{
+    let given = a.count;
+    let count = capped(given, 16);
+    let luacds = a.luacds;
+    let mut next = rows;
+    let mut k = 0;
+    while k < count {
+        let p = luacds[k];
+        next = pushed(next, row_at(i, g, p));
+        k += 1;
+    }
+    next
+}
+
+// The rows of all units, each at its default LUN.
+fn with_units(rows: Rows, i: u8, g: Ground, units: Units) -> Rows
+    requires { ⌜ rows .count ≤ 64 ⌝ }
+    ensures { λ r. ⌜ Joined 32 rows (rowsAt i g (allUnits (take (units .count) (units .luns)))) r ⌝ }
+{
+    let given = units.count;
+    let count = capped(given, 32);
+    let luns = units.luns;
+    let mut next = rows;
+    let mut k = 0;
+    while k < count {
+        let p = Luacd {
+            lun: luns[k],
+            unit: k as u8,
+        };
+        next = pushed(next, row_at(i, g, p));
+        k += 1;
+    }
+    next
+}
+
+// The rows of what an ACE holds: a list or everything.
+fn with_ace(rows: Rows, i: u8, g: Ground, a: Ace, units: Units) -> Rows
+    requires { ⌜ rows .count ≤ 64 ⌝ }
+    ensures { λ r. ⌜ Joined 32 rows (rowsAt i g (held (take (units .count) (units .luns)) (contentOf a))) r ⌝ }
+{
+    let extent = a.extent;
+    match extent {
+        Extent::Listed => with_listed(rows, i, g, a),
+        Extent::Everything => with_units(rows, i, g, units),
+    }
+}
+
+// The rows of what an identifier holds, which is nothing without an ACE.
+fn with_held(rows: Rows, i: u8, g: Ground, acl: Acl, units: Units, k: IdType, id: &[u8]) -> Rows
+    requires { ⌜ rows .count ≤ 64 ⌝ }
+    ensures { λ r. ⌜ Joined 32 rows (rowsAt i g (held (take (units .count) (units .luns)) (contentFor (take (acl .count) (acl .items)) k (now (id .entry))))) r ⌝ }
+{
+    let given = acl.count;
+    let count = capped(given, 32);
+    let place = lookups::ace_place(acl, k, id);
+    if place < count {
+        let aces = acl.items;
+        let a = aces[place];
+        return with_ace(rows, i, g, a, units);
+    }
+    rows
+}
+
+// The rows of an enrolment, its stage first and then the AccessID: A when enrolled, W when pending.
+fn with_enrolment(rows: Rows, i: u8, c: Coordinator, e: &[u8]) -> Rows
+    requires { ⌜ (rows .count ≤ 64) × (0 < length (now e)) ⌝ }
+    ensures { λ r. ⌜ Joined 32 rows (enrolmentRows c i (enrolmentIn (now (e .entry)))) r ⌝ }
+{
+    let acl = c.acl;
+    let units = c.units;
+    let stage = e[0];
+    let id = &e[1..];
+    if stage == 1 {
+        return with_held(rows, i, Ground::GroundA, acl, units, IdType::AccessId, id);
+    }
+    if stage == 2 {
+        return with_held(rows, i, Ground::GroundW, acl, units, IdType::AccessId, id);
+    }
+    rows
+}
+
+// The row of a proxy LUN that is the initiator's own, to the unit of its token.
+fn with_proxy(rows: Rows, i: u8, tokens: Tokens, p: ProxyLun) -> Rows
+    requires { ⌜ rows .count < 96 ⌝ }
+    ensures { λ r. ⌜ Joined 1 rows (rowsOfProxy i (take (tokens .count) (tokens .items)) p) r ⌝ }
+{
+    if p.initiator != i {
+        return rows;
+    }
+    let TokenFound::Live(t) = lookups::token_for(tokens, p.token) else {
+        return rows;
+    };
+    let x = Row {
+        initiator: p.initiator,
+        lun: p.lun,
+        unit: t.unit,
+        ground: Ground::GroundX,
+    };
+    pushed(rows, x)
+}
+
+// The rows of the proxy LUNs of an initiator.
+fn with_proxies(rows: Rows, i: u8, tokens: Tokens, proxies: ProxyLuns) -> Rows
+    requires { ⌜ rows .count ≤ 64 ⌝ }
+    ensures { λ r. ⌜ Joined 32 rows (gather (rowOfProxy (take (tokens .count) (tokens .items))) (keep (ownedBy i) (take (proxies .count) (proxies .items)))) r ⌝ }
+{
+    let given = proxies.count;
+    let count = capped(given, 32);
+    let items = proxies.items;
+    let mut next = rows;
+    let mut k = 0;
+    while k < count {
+        let p = items[k];
+        next = with_proxy(next, i, tokens, p);
+        k += 1;
+    }
+    next
+}
+
+// The rows of an initiator's TransportID.
+fn with_transport(rows: Rows, i: usize, c: Coordinator) -> Rows
+    requires { ⌜ (rows .count ≤ 64) × InSetup c i ⌝ }
+    ensures { λ r. ⌜ Joined 32 rows (transportRows c i) r ⌝ }
+{
+    let acl = c.acl;
+    let units = c.units;
+    let initiators = c.initiators;
+    let ids = initiators.ids;
+    let from = 24 * i;
+    let to = from + 24;
+    with_held(
+        rows,
+        i as u8,
+        Ground::GroundT,
+        acl,
+        units,
+        IdType::TransportId,
+        &ids[from..to],
+    )
+}
+
+// The rows of an initiator's enrolment.
+fn with_access(rows: Rows, i: usize, c: Coordinator) -> Rows
+    requires { ⌜ (rows .count ≤ 64) × InSetup c i ⌝ }
+    ensures { λ r. ⌜ Joined 32 rows (enrolmentRows c i (enrolmentOf c i)) r ⌝ }
+{
+    let initiators = c.initiators;
+    let enrolments = initiators.enrolments;
+    let from = 25 * i;
+    let to = from + 25;
+    with_enrolment(rows, i as u8, c, &enrolments[from..to])
+}
+
+// The rows of an initiator: T, A or W, and X while enabled, and O while disabled.
+pub fn rows_of(c: Coordinator, i: usize) -> Rows
+    requires { ⌜ InSetup c i ⌝ }
+    ensures { λ r. ⌜ r ≡ rowTable (rowsOf c i) ⌝ }
+{
+    let none = table::no_rows();
+    if c.enabled {
+        let transport = with_transport(none, i, c);
+        let access = with_access(transport, i, c);
+        let tokens = c.tokens;
+        let proxies = c.proxies;
+        return with_proxies(access, i as u8, tokens, proxies);
+    }
+    let units = c.units;
+    with_units(none, i as u8, Ground::GroundO, units)
+}

@@ -1,0 +1,4 @@
+pub mod Setters
+pub mod Listing
+pub mod Finding
+pub mod Enrolling

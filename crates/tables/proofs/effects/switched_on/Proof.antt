@@ -1,0 +1,12 @@
+use borrow.Author.Needs.{needs}
+use Rattle.paper.specs.Effects.{applied}
+use Rattle.tables.proofs.effects.switched_on.Statement.{statement}
+use Rattle.tables.proofs.effects.switched_on.Tie as tie
+
+pub switched-on-spec : {M : Type 1} → statement M
+unfolding applied
+switched-on-spec =
+    tie.close
+    (tie.spec
+    (λ c κs. search needs)
+    (λ c. c .with-switch .ensures))

@@ -1,0 +1,36 @@
+use Prim.Native.Nat.{_-_}
+use mathlib.Core.List.{[], _∷_}
+use native.Mathlib.Omega.{arith}
+use borrow.Author.Needs.{needs}
+use Rattle.lists.proofs.Walk.{length-mapped}
+use Rattle.paper.specs.Tables.{noProxy}
+use Rattle.lists.proofs.Rebuild.{Copied, copy-none, copy-more, copy-last}
+use Rattle.tables.proofs.Setters.{proxy-table}
+use Rattle.tables.proofs.proxies.proxy_added.Statement.{statement}
+use Rattle.tables.proofs.proxies.proxy_added.Tie as tie
+
+abbrev Inv : tie.InvT-loop
+Inv p count from items₀ i₀ items i = Copied noProxy 32 (p ∷ []) from 32 count count i items
+
+abbrev μ : tie.MeasureT-loop
+μ p count from items₀ i₀ items i = count - i
+
+pub proxy-added-spec : {M : Type 1} → statement M
+proxy-added-spec =
+    tie.close
+    (tie.spec
+    Inv
+    μ
+    (λ c κs. search needs)
+    (λ c. rw (c .no-proxy .ensures) (copy-none _ _ _ (search (length-mapped, needs)) (omega arith) (omega arith)))
+    (λ c. omega arith)
+    (λ c. omega arith)
+    (λ c. omega arith)
+    (λ c. omega arith)
+    (λ c. omega arith)
+    (λ c. omega arith)
+    (λ c. copy-more (c .before .before .loop .inv) noProxy (c .before .loop-test .taken))
+    (λ c. omega arith)
+    (λ c. omega arith)
+    (λ c. omega arith)
+    (λ c. proxy-table (copy-last (c .before .loop .inv) (c .loop-test .left))))

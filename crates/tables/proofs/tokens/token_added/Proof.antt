@@ -1,0 +1,36 @@
+use Prim.Native.Nat.{_-_}
+use mathlib.Core.List.{[], _∷_}
+use native.Mathlib.Omega.{arith}
+use borrow.Author.Needs.{needs}
+use Rattle.lists.proofs.Walk.{length-mapped}
+use Rattle.paper.specs.Tables.{noToken}
+use Rattle.lists.proofs.Rebuild.{Copied, copy-none, copy-more, copy-last}
+use Rattle.tables.proofs.Setters.{token-table}
+use Rattle.tables.proofs.tokens.token_added.Statement.{statement}
+use Rattle.tables.proofs.tokens.token_added.Tie as tie
+
+abbrev Inv : tie.InvT-loop
+Inv t count from items₀ i₀ items i = Copied noToken 32 (t ∷ []) from 32 count count i items
+
+abbrev μ : tie.MeasureT-loop
+μ t count from items₀ i₀ items i = count - i
+
+pub token-added-spec : {M : Type 1} → statement M
+token-added-spec =
+    tie.close
+    (tie.spec
+    Inv
+    μ
+    (λ c κs. search needs)
+    (λ c. rw (c .no-token .ensures) (copy-none _ _ _ (search (length-mapped, needs)) (omega arith) (omega arith)))
+    (λ c. omega arith)
+    (λ c. omega arith)
+    (λ c. omega arith)
+    (λ c. omega arith)
+    (λ c. omega arith)
+    (λ c. omega arith)
+    (λ c. copy-more (c .before .before .loop .inv) noToken (c .before .loop-test .taken))
+    (λ c. omega arith)
+    (λ c. omega arith)
+    (λ c. omega arith)
+    (λ c. token-table (copy-last (c .before .loop .inv) (c .loop-test .left))))

@@ -1,0 +1,44 @@
+use Prim.Native.Nat.{_-_}
+use mathlib.Core.Logic.{⊎-elim}
+use native.Mathlib.Omega.{arith}
+use borrow.Author.Needs.{needs}
+use Rattle.lists.proofs.Walk.{length-mapped}
+use Rattle.paper.specs.Tables.{noToken}
+use Rattle.paper.specs.Effects.{outlives}
+use Rattle.tables.specs.Endings.{endingOf}
+use Rattle.lists.proofs.Rebuild.{Sifted, sift-none, sift-keeps, sift-drops, sift-end}
+use Rattle.tables.proofs.Setters.{token-table}
+use Rattle.tables.proofs.tokens.tokens_after.Statement.{statement}
+use Rattle.tables.proofs.tokens.tokens_after.Tie as tie
+
+abbrev Inv : tie.InvT-loop
+Inv e page given count from items₀ kept₀ i₀ items kept i =
+    Sifted (outlives (endingOf e page)) noToken 32 from given count i items kept
+
+abbrev μ : tie.MeasureT-loop
+μ e page given count from items₀ kept₀ i₀ items kept i = count - i
+
+pub tokens-after-spec : {M : Type 1} → statement M
+tokens-after-spec =
+    tie.close
+    (tie.spec
+    Inv
+    μ
+    (λ c κs. search needs)
+    (λ c κs. search needs)
+    (λ c. rw (c .no-token .ensures) (sift-none _ _ (search (length-mapped, needs)) (search needs)))
+    (λ c. omega arith)
+    (λ c. omega arith)
+    (λ c κs. search needs)
+    (λ c. omega arith)
+    (λ c. omega arith)
+    (λ c. omega arith)
+    (λ c. omega arith)
+    (λ c. omega arith)
+    (λ c.
+    let a = c .before .before .before in
+    ⊎-elim
+    (λ w. sift-keeps (a .before .loop .inv) noToken (a .loop-test .taken) (rw (← c .before .ends-token .ensures) (w .0 .taken)) (w .1) (w .2))
+    (λ w. sift-drops (a .before .loop .inv) noToken (a .loop-test .taken) (rw (← c .before .ends-token .ensures) (w .0 .left)) (w .1) (w .2))
+    (c .if1 .came))
+    (λ c. token-table (sift-end (c .before .loop .inv) (c .loop-test .left))))

@@ -1,0 +1,101 @@
+// ACEs made, put into the ACL and taken out of it.
+ghost use mathlib.Core.Path.{_≡_};
+ghost use mathlib.Core.List.{[], _∷_, _++_};
+ghost use Prim.Native.Nat.{_<_};
+ghost use lib.ListN.{take};
+ghost use Rattle.lists.specs.Lists.{keep, isSome};
+ghost use Rattle.paper.specs.Effects.{otherAce};
+ghost use Rattle.paper.specs.Rows.{aceFor};
+ghost use Rattle.paper.specs.Tables.{these, everything, aceOf, aclOf};
+use crate::lookups;
+use paper::state;
+use paper::state::Ace;
+use paper::state::Acl;
+use paper::state::Extent;
+use paper::state::IdType;
+use paper::state::Luacd;
+
+// The ACEs without that of an identifier.
+pub fn aces_without(acl: Acl, k: IdType, id: &[u8]) -> Acl
+    ensures { λ r. ⌜ r ≡ aclOf (keep (otherAce k (now (id .entry))) (take (acl .count) (acl .items))) ⌝ }
+{
+    let given = acl.count;
+    let count = lookups::capped(given, 32);
+    let from = acl.items;
+    let mut items = [state::no_ace(); 32];
+    let mut kept = 0;
+    let mut i = 0;
+    while i < count {
+        let a = from[i];
+        if !lookups::is_for(a, k, id) {
+            items[kept] = a;
+            kept += 1;
+        }
+        i += 1;
+    }
+    Acl {
+        count: kept,
+        items: items,
+    }
+}
+
+// The ACL with one ACE more, behind the others.
+pub fn ace_added(acl: Acl, a: Ace) -> Acl
+    requires { ⌜ acl .count < 32 ⌝ }
+    ensures { λ r. ⌜ r ≡ aclOf (take (acl .count) (acl .items) ++ (a ∷ [])) ⌝ }
+{
+    let count = acl.count;
+    let from = acl.items;
+    let mut items = [state::no_ace(); 32];
+    let mut i = 0;
+    while i < count {
+        items[i] = from[i];
+        i += 1;
+    }
+    items[count] = a;
+    Acl {
+        count: count + 1,
+        items: items,
+    }
+}
+
+pub fn has_ace(acl: Acl, k: IdType, id: &[u8]) -> bool
+    ensures { λ r. ⌜ r ≡ isSome (aceFor (take (acl .count) (acl .items)) k (now (id .entry))) ⌝ }
+{
+    let given = acl.count;
+    let place = lookups::ace_place(acl, k, id);
+    place < lookups::capped(given, 32)
+}
+
+// An ACE that holds the first LUACDs of an array.
+pub fn listed_ace(k: IdType, id: [u8; 24], luacds: [Luacd; 16], given: usize) -> Ace
+    ensures { λ r. ⌜ r ≡ aceOf k id (these (take given luacds)) ⌝ }
+{
+    let count = lookups::capped(given, 16);
+    let mut items = [state::no_luacd(); 16];
+    let mut i = 0;
+    while i < count {
+        items[i] = luacds[i];
+        i += 1;
+    }
+    Ace {
+        kind: k,
+        extent: Extent::Listed,
+        id: id,
+        count: count,
+        luacds: items,
+    }
+}
+
+// An ACE that holds all units, each at its default LUN.
+pub fn all_units_ace(k: IdType, id: [u8; 24]) -> Ace
+    ensures { λ r. ⌜ r ≡ aceOf k id everything ⌝ }
+{
+    Ace {
+        kind: k,
+        extent: Extent::Everything,
+        id: id,
+        count: 0,
+        luacds: [state::no_luacd(); 16],
+    }
+}

@@ -1,0 +1,194 @@
+// Enrolments, and the TransportIDs beside them: read from their bytes, and rebuilt after a change.
+ghost use mathlib.Core.Path.{_≡_};
+ghost use mathlib.Core.List.{[], map};
+ghost use Prim.Native.Nat.{_+_, _*_, _≤_};
+ghost use lib.ListN.{getD};
+ghost use lib.Seq.{sets};
+ghost use Rattle.lists.specs.Lists.{parts};
+ghost use Rattle.paper.specs.Identifiers.{kept};
+ghost use Rattle.paper.specs.Effects.{suspended, endedUnder};
+ghost use Rattle.paper.specs.Tables.{enrolmentAt, enrolmentIn, enrolmentTable};
+ghost use Rattle.paper.specs.declared.state.IdType.the-variants.{AccessId};
+ghost use Rattle.tables.specs.Changes.{changed, changedAt, storedFor, storedBytes, idAt};
+use crate::identifiers;
+use paper::state::IdType;
+use paper::state::Initiators;
+
+// What happens to enrolments: an initiator joins, leaves or loses its link; FLUSH; or those under an AccessID end.
+pub enum Change {
+    Joined(usize),
+    Left(usize),
+    Lost(usize),
+    Flushed,
+    EndedUnder,
+}
+
+// One enrolment as its bytes hold it: the stage is 1 enrolled, 2 pending.
+pub struct Stored {
+    pub stage: u8,
+    pub id: [u8; 24],
+}
+
+// The identifier at a place of a run of bytes, all 24 of it.
+fn id_at(bytes: &[u8], at: usize) -> [u8; 24]
+    ensures { λ r. ⌜ r ≡ idAt (now (bytes .entry)) at ⌝ }
+{
+    if bytes.len() <= at {
+        return [0; 24];
+    }
+    identifiers::kept_id(IdType::TransportId, &bytes[at..])
+}
+
+// The TransportID of an initiator.
+pub fn transport_of(t: Initiators, i: usize) -> [u8; 24]
+    ensures { λ r. ⌜ r ≡ idAt (t .ids) (24 * i) ⌝ }
+{
+    let ids = t.ids;
+    if 16 <= i {
+        return [0; 24];
+    }
+    id_at(&ids, 24 * i)
+}
+
+// The stage of an initiator's enrolment.
+pub fn stage_of(t: Initiators, i: usize) -> u8
+    ensures { λ r. ⌜ r ≡ getD (t .enrolments) (25 * i) 0 ⌝ }
+{
+    let bytes = t.enrolments;
+    if 16 <= i {
+        return 0;
+    }
+    bytes[25 * i]
+}
+
+// The AccessID of an initiator's enrolment.
+pub fn access_of(t: Initiators, i: usize) -> [u8; 24]
+    ensures { λ r. ⌜ r ≡ idAt (t .enrolments) (25 * i + 1) ⌝ }
+{
+    let bytes = t.enrolments;
+    if 16 <= i {
+        return [0; 24];
+    }
+    id_at(&bytes, 25 * i + 1)
+}
+
+fn stored_under(stage: u8, id: &[u8]) -> Stored
+    ensures { λ r. ⌜ r ≡ record { stage = stage; id = kept AccessId (now (id .entry)) } ⌝ }
+{
+    Stored {
+        stage: stage,
+        id: identifiers::kept_id(IdType::AccessId, id),
+    }
+}
+
+// An enrolment as it was.
+fn same_stored(stage: u8, access: [u8; 24]) -> Stored
+    ensures { λ r. ⌜ r ≡ storedFor (enrolmentAt stage access) ⌝ }
+{
+    if stage == 1 {
+        return stored_under(1, &access);
+    }
+    if stage == 2 {
+        return stored_under(2, &access);
+    }
+    Stored {
+        stage: 0,
+        id: [0; 24],
+    }
+}
+
+// Pending, if it was enrolled.
+fn suspended_stored(stage: u8, access: [u8; 24]) -> Stored
+    ensures { λ r. ⌜ r ≡ storedFor (suspended (enrolmentAt stage access)) ⌝ }
+{
+    if stage == 1 {
+        return stored_under(2, &access);
+    }
+    same_stored(stage, access)
+}
+
+// Not enrolled, if it was under this AccessID.
+fn ended_stored(stage: u8, access: [u8; 24], id: &[u8]) -> Stored
+    ensures { λ r. ⌜ r ≡ storedFor (endedUnder (now (id .entry)) (enrolmentAt stage access)) ⌝ }
+{
+    if identifiers::same_id(IdType::AccessId, &access, IdType::AccessId, id) {
+        return same_stored(0, access);
+    }
+    same_stored(stage, access)
+}
+
+// The enrolment of initiator i after a change.
+fn changed_stored(change: Change, i: usize, stage: u8, access: [u8; 24], id: &[u8]) -> Stored
+    ensures { λ r. ⌜ r ≡ storedFor (changedAt change (now (id .entry)) i (enrolmentAt stage access)) ⌝ }
+{
+    match change {
+        Change::Joined(j) => {
+            if i == j {
+                return stored_under(1, id);
+            }
+            same_stored(stage, access)
+        }
+        Change::Left(j) => {
+            if i == j {
+                return same_stored(0, access);
+            }
+            same_stored(stage, access)
+        }
+        Change::Lost(j) => {
+            if i == j {
+                return suspended_stored(stage, access);
+            }
+            same_stored(stage, access)
+        }
+        Change::Flushed => suspended_stored(stage, access),
+        Change::EndedUnder => ended_stored(stage, access, id),
+    }
+}
+
+// One enrolment is written at its place.
+fn write_stored(out: &mut [u8; 400], at: usize, e: Stored)
+    requires { ⌜ at + 25 ≤ 400 ⌝ }
+    ensures { λ r. ⌜ now (out .exit) ≡ sets (now (out .entry)) at (storedBytes e) ⌝ }
+{
+    let id = e.id;
+    let first = at + 1;
+    out[at] = e.stage;
+    let mut j = 0;
+    while j < 24 {
+        out[first + j] = id[j];
+        j += 1;
+    }
+}
+
+// The initiators with their enrolments after a change.
+pub fn enrolments_after(t: Initiators, change: Change, id: &[u8]) -> Initiators
+    requires { ⌜ t .count ≤ 16 ⌝ }
+    ensures { λ r. ⌜ r ≡ record { count = t .count; ids = t .ids; enrolments = enrolmentTable (changed change (now (id .entry)) (map enrolmentIn (parts 25 (t .count) (t .enrolments)))) } ⌝ }
+{
+    let count = t.count;
+    let ids = t.ids;
+    let mut bytes = [0; 400];
+    let mut i = 0;
+    while i < count {
+        let e = changed_stored(change, i, stage_of(t, i), access_of(t, i), id);
+        write_stored(&mut bytes, 25 * i, e);
+        i += 1;
+    }
+    Initiators {
+        count: count,
+        ids: ids,
+        enrolments: bytes,
+    }
+}
+
+// The initiators with nobody enrolled.
+pub fn nobody_enrolled(t: Initiators) -> Initiators
+    ensures { λ r. ⌜ r ≡ record { count = t .count; ids = t .ids; enrolments = enrolmentTable [] } ⌝ }
+{
+    let ids = t.ids;
+    Initiators {
+        count: t.count,
+        ids: ids,
+        enrolments: [0; 400],
+    }
+}
