@@ -1,5 +1,6 @@
 -- A table that was built is the setter's.
 use Prim.Native.Nat.{ℕ}
+use mathlib.Core.Path.{_≡_}
 use mathlib.Core.List.{List}
 use Rattle.lists.proofs.Tables.{Built}
 use Rattle.paper.specs.Tables.{these, noLuacd, noAce, noToken, noProxy, aceOf, aclOf, tokenTable, proxyTable}

@@ -1,0 +1,4 @@
+pub mod More
+pub mod Luacds
+pub mod Enrolments
+pub mod Initiators

@@ -1,0 +1,16 @@
+use borrow.Author.Needs.{needs}
+use Rattle.standing.proofs.keeps.token_keeps.Statement.{statement}
+use Rattle.standing.proofs.keeps.token_keeps.Tie as tie
+
+pub token-keeps-spec : {M : Type 1} → statement M
+token-keeps-spec =
+    tie.close
+    (tie.spec
+    (λ c. search needs)
+    (λ c κs. search needs)
+    (λ c. search needs)
+    (λ c. search needs)
+    (λ c κs. search needs)
+    (λ c. rw (c .before .enum-told .given .1) (c .lun-stands .ensures))
+    (λ c. rw (c .before .enum-told2 .given .1))
+    (λ c. rw (c .before .enum-told3 .given .1) (c .token-refers .ensures)))

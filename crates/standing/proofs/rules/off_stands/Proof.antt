@@ -1,0 +1,22 @@
+use Rattle.standing.proofs.More.{and-no, and-yes}
+use Rattle.paper.specs.declared.state.Coordinator.{Coordinator}
+use Rattle.paper.specs.Standing.{offStands}
+use lib.Dec.{eqb}
+use borrow.Author.Tests.{eq-eqb, ne-eqb}
+use mathlib.Core.Bool.{Bool, _&&_, _||_}
+use mathlib.Core.Path.{refl, ap, sym, _∙_}
+use Rattle.standing.proofs.rules.off_stands.Statement.{statement}
+use Rattle.standing.proofs.rules.off_stands.Tie as tie
+
+abbrev empty : Coordinator → Bool
+empty c = eqb (c .acl .count) 0 && (eqb (c .tokens .count) 0 && eqb (c .key) 0)
+
+pub off-stands-spec : {M : Type 1} → statement M
+unfolding offStands
+off-stands-spec =
+    tie.close
+    (tie.spec
+    (λ c. ap (λ b. b || empty (c .before .args .c)) (sym (c .if1 .taken)))
+    (λ c. and-no _ refl (ne-eqb _ _ (c .if2 .taken)) ∙ ap (λ b. b || empty (c .before .before .before .args .c)) (sym (c .before .before .if1 .left)))
+    (λ c. and-yes refl (eq-eqb _ _ (c .before .before .if2 .left)) (and-no _ refl (ne-eqb _ _ (c .if3 .taken))) ∙ ap (λ b. b || empty (c .before .before .before .before .before .args .c)) (sym (c .before .before .before .before .if1 .left)))
+    (λ c. and-yes refl (eq-eqb _ _ (c .before .before .before .if2 .left)) (and-yes refl (eq-eqb _ _ (c .before .if3 .left)) refl) ∙ ap (λ b. b || empty (c .before .before .before .before .before .before .args .c)) (sym (c .before .before .before .before .before .if1 .left))))

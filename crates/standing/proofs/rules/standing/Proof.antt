@@ -1,0 +1,60 @@
+use Rattle.standing.proofs.More.{and-yes, refused}
+use Rattle.paper.proofs.Stood.{stood, counted}
+use Rattle.paper.specs.Standing.{standing}
+use borrow.Author.Tests.{not-false}
+use mathlib.Core.Path.{sym, _∙_}
+use borrow.Author.Needs.{needs}
+use Rattle.standing.proofs.rules.standing.Statement.{statement}
+use Rattle.standing.proofs.rules.standing.Tie as tie
+
+pub standing-spec : {M : Type 1} → statement M
+unfolding standing
+standing-spec =
+    tie.close
+    (tie.spec
+    (λ c κs. search needs)
+    (λ c. refused _ (λ s. stood (c .before .before .args .c) s .setup) (c .before .setup-stands .ensures) (c .if1 .taken))
+    (λ c κs. search needs)
+    (λ c. refused _ (λ s. stood (c .before .before .before .before .args .c) s .counts) (c .before .counts-stand .ensures) (c .if2 .taken))
+    (λ c κs. search needs)
+    (λ c. refused _ (λ s. stood (c .before .before .before .before .before .before .args .c) s .identifiers) (c .before .identifiers-stand .ensures) (c .if3 .taken))
+    (λ c κs. search needs)
+    (λ c. refused _ (λ s. stood (c .before .before .before .before .before .before .before .before .args .c) s .proxies) (c .before .proxies-stand .ensures) (c .if4 .taken))
+    (λ c κs. search needs)
+    (λ c. refused _ (λ s. stood (c .before .before .before .before .before .before .before .before .before .before .args .c) s .luacds) (c .before .luacds-stand .ensures) (c .if5 .taken))
+    (λ c κs. search needs)
+    (λ c. refused _ (λ s. stood (c .before .before .before .before .before .before .before .before .before .before .before .before .args .c) s .lists) (c .before .lists-stand .ensures) (c .if6 .taken))
+    (λ c κs. search needs)
+    (λ c. refused _ (λ s. stood (c .before .before .before .before .before .before .before .before .before .before .before .before .before .before .args .c) s .forms) (c .before .forms-stand .ensures) (c .if7 .taken))
+    (λ c κs. search needs)
+    (λ c. refused _ (λ s. stood (c .before .before .before .before .before .before .before .before .before .before .before .before .before .before .before .before .args .c) s .tokens) (c .before .tokens-stand .ensures) (c .if8 .taken))
+    (λ c κs. search needs)
+    (λ c. refused _ (λ s. stood (c .before .before .before .before .before .before .before .before .before .before .before .before .before .before .before .before .before .before .args .c) s .references) (c .before .references-stand .ensures) (c .if9 .taken))
+    (λ c κs. counted (c .before .before .before .before .before .before .before .before .before .before .before .before .before .before .before .before .before .before .args .c) (sym (c .before .before .before .before .before .before .before .before .before .before .before .before .before .before .before .counts-stand .ensures) ∙ not-false _ (c .before .before .before .before .before .before .before .before .before .before .before .before .before .before .if2 .left)) .few-initiators)
+    (λ c. refused _ (λ s. stood (c .before .before .before .before .before .before .before .before .before .before .before .before .before .before .before .before .before .before .before .before .args .c) s .clashes) (c .before .no-clash .ensures) (c .if10 .taken))
+    (λ c κs. search needs)
+    (λ c. refused _ (λ s. stood (c .before .before .before .before .before .before .before .before .before .before .before .before .before .before .before .before .before .before .before .before .before .before .args .c) s .generation) (c .before .generation-stands .ensures) (c .if11 .taken))
+    (λ c κs. search needs)
+    (λ c. let l = c .before in
+    let k = l .before .before in
+    let j = k .before .before in
+    let i = j .before .before in
+    let h = i .before .before in
+    let g = h .before .before in
+    let f = g .before .before in
+    let e = f .before .before in
+    let d = e .before .before in
+    let b = d .before .before in
+    let a = b .before .before in
+    and-yes (a .before .setup-stands .ensures) (not-false _ (a .if1 .left))
+    (and-yes (b .before .counts-stand .ensures) (not-false _ (b .if2 .left))
+    (and-yes (d .before .identifiers-stand .ensures) (not-false _ (d .if3 .left))
+    (and-yes (e .before .proxies-stand .ensures) (not-false _ (e .if4 .left))
+    (and-yes (f .before .luacds-stand .ensures) (not-false _ (f .if5 .left))
+    (and-yes (g .before .lists-stand .ensures) (not-false _ (g .if6 .left))
+    (and-yes (h .before .forms-stand .ensures) (not-false _ (h .if7 .left))
+    (and-yes (i .before .tokens-stand .ensures) (not-false _ (i .if8 .left))
+    (and-yes (j .before .references-stand .ensures) (not-false _ (j .if9 .left))
+    (and-yes (k .before .no-clash .ensures) (not-false _ (k .if10 .left))
+    (and-yes (l .before .generation-stands .ensures) (not-false _ (l .if11 .left))
+    (c .off-stands .ensures)))))))))))))
