@@ -9,3 +9,4 @@ pub mod Pages
 pub mod Parts
 pub mod Order
 pub mod Sums
+pub mod Places

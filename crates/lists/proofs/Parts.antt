@@ -108,12 +108,3 @@ kept-none f p = refl
 pub kept-next : {A B : Type 0} (f : A → List B) (p : A → Bool) (x : A) (l : List A) → gather f (keep p (x ∷ l)) ≡ cond (p x) (f x) [] ++ gather f (keep p l)
 unfolding gather keep
 kept-next f p x l = split (p x) (λ e. simp e) (λ e. simp e)
-
--- the numbers from i on, below n: one and the rest, or none
-pub count-next : (n i : ℕ) → i < n → count i (n - i) ≡ i ∷ count (i + 1) (n - (i + 1))
-unfolding count
-count-next n i h = let e : n - i ≡ suc (n - (i + 1)) = omega arith in rw (e, add-one)
-
-pub count-end : (n i : ℕ) → n ≤ i → count i (n - i) ≡ []
-unfolding count
-count-end n i h = let e : n - i ≡ 0 = omega arith in rw e

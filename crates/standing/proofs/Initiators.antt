@@ -25,7 +25,7 @@ use Rattle.standing.specs.declared.keeps.Rule.the-variants.{EachEnrolmen
 use Rattle.standing.specs.declared.twice.Pairing.the-variants.{SameTransport, SameDefault}
 use Rattle.standing.specs.Keeps.{enrolmentKeeps, holdsAt}
 use Rattle.standing.specs.Twice.{sameAt}
-use Rattle.standing.proofs.More.{all-at, pairs-at, parts-at, pairs-same, same-taken}
+use Rattle.lists.proofs.Places.{all-at, pairs-at, parts-at, pairs-same, same-taken}
 use Rattle.standing.proofs.Enrolments.{free-past}
 
 and-right : (a : Bool) → a && true ≡ a

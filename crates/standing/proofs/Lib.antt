@@ -1,4 +1,3 @@
-pub mod More
 pub mod Luacds
 pub mod Enrolments
 pub mod Initiators

@@ -11,7 +11,7 @@ use Rattle.paper.specs.Standing.{listedIn, holdsNothing}
 use Rattle.paper.specs.declared.state.Extent.{Extent}
 use Rattle.paper.specs.declared.state.Extent.the-variants.{Listed, Everything}
 use Rattle.paper.specs.declared.state.Luacd.{Luacd}
-use Rattle.standing.proofs.More.{entry-in}
+use Rattle.lists.proofs.Places.{entry-in}
 
 pub luacd-in : (x : Extent) (k : ℕ) (l : List Luacd) (d e : Luacd) {i : ℕ} → i < length (listedIn (contentBy x (take k l))) → getD l i d ≡ getD (listedIn (contentBy x (take k l))) i e
 luacd-in Listed k l d e h = entry-in k l d e h

@@ -88,18 +88,31 @@ fn same_defaults(t: Units, i: usize, j: usize) -> bool
 fn same_at(c: Coordinator, p: Pairing, i: usize, j: usize) -> bool
     ensures { λ r. ⌜ r ≡ sameAt c p i j ⌝ }
 {
-    let acl = c.acl;
-    let tokens = c.tokens;
-    let proxies = c.proxies;
-    let initiators = c.initiators;
-    let units = c.units;
     match p {
-        Pairing::SameIdentifier => same_identifiers(acl, i, j),
-        Pairing::SameToken => same_tokens(tokens, i, j),
-        Pairing::SameProxy => same_proxies(proxies, i, j),
-        Pairing::SameLuacd(k) => same_luacds(entries::ace_at(acl, k), i, j),
-        Pairing::SameTransport => same_transports(initiators, i, j),
-        Pairing::SameDefault => same_defaults(units, i, j),
+        Pairing::SameIdentifier => {
+            let acl = c.acl;
+            same_identifiers(acl, i, j)
+        }
+        Pairing::SameToken => {
+            let tokens = c.tokens;
+            same_tokens(tokens, i, j)
+        }
+        Pairing::SameProxy => {
+            let proxies = c.proxies;
+            same_proxies(proxies, i, j)
+        }
+        Pairing::SameLuacd(k) => {
+            let acl = c.acl;
+            same_luacds(entries::ace_at(acl, k), i, j)
+        }
+        Pairing::SameTransport => {
+            let initiators = c.initiators;
+            same_transports(initiators, i, j)
+        }
+        Pairing::SameDefault => {
+            let units = c.units;
+            same_defaults(units, i, j)
+        }
     }
 }
 

@@ -4,7 +4,7 @@ use native.Mathlib.Nat.{sub-zero}
 use native.Mathlib.Omega.{arith}
 use Rattle.lists.specs.Lists.{any, count}
 use Rattle.paper.specs.Rows.{clashFor, someClash}
-use Rattle.lists.proofs.Parts.{count-next, count-end}
+use Rattle.lists.proofs.Places.{between-cons, between-nil}
 use Rattle.rows.proofs.clashes.some_clash.Statement.{statement}
 use Rattle.rows.proofs.clashes.some_clash.Tie as tie
 
@@ -25,12 +25,12 @@ some-clash-spec =
     (λ c κs. record { there = c .loop-test .taken; few = c .before .before .pre })
     (λ c.
     let a = c .before .before in
-    sym (a .before .loop .inv .1 ∙ rw (count-next _ _ (a .loop-test .taken), sym (c .before .clash-for .ensures) ∙ c .if1 .taken)))
+    sym (a .before .loop .inv .1 ∙ rw (between-cons _ _ (a .loop-test .taken), sym (c .before .clash-for .ensures) ∙ c .if1 .taken)))
     (λ c. omega arith)
     (λ c. omega arith)
     (λ c.
     let a = c .before .before in (
       omega arith,
-      a .before .loop .inv .1 ∙ rw (count-next _ _ (a .loop-test .taken), sym (c .before .clash-for .ensures) ∙ c .if1 .left),
+      a .before .loop .inv .1 ∙ rw (between-cons _ _ (a .loop-test .taken), sym (c .before .clash-for .ensures) ∙ c .if1 .left),
     ))
-    (λ c. sym (c .before .loop .inv .1 ∙ rw (count-end _ _ (c .loop-test .left)))))
+    (λ c. sym (c .before .loop .inv .1 ∙ rw (between-nil _ _ (c .loop-test .left)))))

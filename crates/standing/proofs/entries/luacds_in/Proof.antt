@@ -1,4 +1,4 @@
-use Rattle.standing.proofs.More.{entries}
+use Rattle.lists.proofs.Places.{entries}
 use Rattle.paper.specs.Standing.{listedIn}
 use Rattle.paper.specs.Tables.{contentBy}
 use lib.ListN.{length, take}

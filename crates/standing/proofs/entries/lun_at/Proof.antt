@@ -1,4 +1,4 @@
-use Rattle.standing.proofs.More.{entry-at, entry-past}
+use Rattle.lists.proofs.Places.{entry-at, entry-past}
 use borrow.Author.Needs.{needs}
 use Rattle.standing.proofs.entries.lun_at.Statement.{statement}
 use Rattle.standing.proofs.entries.lun_at.Tie as tie

@@ -1,4 +1,4 @@
-use Rattle.standing.proofs.More.{entries}
+use Rattle.lists.proofs.Places.{entries}
 use Rattle.lists.proofs.Walk.{length-mapped}
 use borrow.Author.Needs.{needs}
 use Rattle.standing.proofs.entries.proxies_in.Statement.{statement}

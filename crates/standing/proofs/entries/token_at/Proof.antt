@@ -1,6 +1,6 @@
 use Rattle.paper.specs.Tables.{noToken}
 use mathlib.Core.Path.{_∙_}
-use Rattle.standing.proofs.More.{entry-at, entry-past}
+use Rattle.lists.proofs.Places.{entry-at, entry-past}
 use Rattle.lists.proofs.Walk.{length-mapped}
 use borrow.Author.Needs.{needs}
 use Rattle.standing.proofs.entries.token_at.Statement.{statement}

@@ -1,4 +1,4 @@
-use Rattle.standing.proofs.More.{entries}
+use Rattle.lists.proofs.Places.{entries}
 use borrow.Author.Needs.{needs}
 use Rattle.standing.proofs.entries.units_in.Statement.{statement}
 use Rattle.standing.proofs.entries.units_in.Tie as tie

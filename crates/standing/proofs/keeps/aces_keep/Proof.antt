@@ -1,4 +1,4 @@
-use Rattle.standing.proofs.More.{all-at}
+use Rattle.lists.proofs.Places.{all-at}
 use Rattle.standing.specs.Keeps.{aceTest, holdsAt}
 use Rattle.paper.specs.Tables.{noAce, acesOf}
 use mathlib.Core.Path.{_∙_}

@@ -1,4 +1,4 @@
-use Rattle.standing.proofs.More.{between, between-cons, between-nil, below-between, all-step, all-stop, all-end}
+use Rattle.lists.proofs.Places.{between, between-cons, between-nil, below-between, all-step, all-stop, all-end}
 use Rattle.standing.specs.Keeps.{holdsAt}
 use Rattle.lists.specs.Lists.{all, below}
 use borrow.Author.Tests.{not-true, not-false}

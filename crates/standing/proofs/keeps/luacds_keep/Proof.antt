@@ -1,5 +1,5 @@
 use borrow.Author.Tests.{not-true, not-false}
-use Rattle.standing.proofs.More.{all-step, all-stop, all-end}
+use Rattle.lists.proofs.Places.{all-step, all-stop, all-end}
 use Rattle.standing.specs.Keeps.{luacdTest}
 use Rattle.paper.specs.Standing.{luacdsOf}
 use Rattle.paper.specs.Tables.{noLuacd}

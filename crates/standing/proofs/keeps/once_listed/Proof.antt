@@ -1,5 +1,5 @@
 use lib.ListN.{length, getD}
-use Rattle.standing.proofs.More.{pairs-at}
+use Rattle.lists.proofs.Places.{pairs-at}
 use Rattle.standing.specs.Twice.{sameAt}
 use Rattle.paper.specs.Standing.{sameLunOrUnit, luacdsOf}
 use Rattle.paper.specs.Tables.{noAce, noLuacd, acesOf}

@@ -1,4 +1,4 @@
-use Rattle.standing.proofs.More.{and-no, and-yes}
+use Rattle.lists.proofs.Places.{and-no, and-yes}
 use Rattle.paper.specs.Standing.{countsStand}
 use borrow.Author.Tests.{le-leb, lt-leb, not-true, not-false}
 use mathlib.Core.Path.{refl}

@@ -1,4 +1,4 @@
-use Rattle.standing.proofs.More.{and-no, and-yes}
+use Rattle.lists.proofs.Places.{and-no, and-yes}
 use Rattle.paper.specs.Standing.{formsStand}
 use borrow.Author.Tests.{not-true, not-false}
 use borrow.Author.Needs.{needs}

@@ -1,4 +1,4 @@
-use Rattle.standing.proofs.More.{pairs-at}
+use Rattle.lists.proofs.Places.{pairs-at}
 use Rattle.standing.specs.Twice.{sameAt}
 use Rattle.paper.specs.Standing.{sameAce, identifiersStand}
 use Rattle.paper.specs.Tables.{noAce, acesOf}

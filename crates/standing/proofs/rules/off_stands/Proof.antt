@@ -1,4 +1,4 @@
-use Rattle.standing.proofs.More.{and-no, and-yes}
+use Rattle.lists.proofs.Places.{and-no, and-yes}
 use Rattle.paper.specs.declared.state.Coordinator.{Coordinator}
 use Rattle.paper.specs.Standing.{offStands}
 use lib.Dec.{eqb}

@@ -1,4 +1,4 @@
-use Rattle.standing.proofs.More.{pairs-at, and-no, and-yes}
+use Rattle.lists.proofs.Places.{pairs-at, and-no, and-yes}
 use Rattle.standing.specs.Twice.{sameAt}
 use Rattle.paper.specs.Standing.{sameToken, sameProxy, proxiesStand}
 use Rattle.paper.specs.Tables.{noToken, noProxy, tokensOf, proxiesOf}

@@ -1,5 +1,5 @@
 use Rattle.standing.proofs.Initiators.{enrolments-refer}
-use Rattle.standing.proofs.More.{and-no, and-yes}
+use Rattle.lists.proofs.Places.{and-no, and-yes}
 use Rattle.paper.specs.Standing.{referencesStand}
 use lib.ListN.{length}
 use borrow.Author.Tests.{not-true, not-false}

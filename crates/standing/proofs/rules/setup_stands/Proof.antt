@@ -1,5 +1,5 @@
 use Rattle.standing.proofs.Initiators.{setup-by}
-use Rattle.standing.proofs.More.{and-no, and-yes}
+use Rattle.lists.proofs.Places.{and-no, and-yes}
 use Rattle.standing.specs.Twice.{sameAt}
 use Rattle.standing.specs.Keeps.{holdsAt}
 use Rattle.standing.specs.declared.twice.Pairing.the-variants.{SameDefault}

@@ -1,4 +1,4 @@
-use Rattle.standing.proofs.More.{and-yes, refused}
+use Rattle.lists.proofs.Places.{and-yes, refused}
 use Rattle.paper.proofs.Stood.{stood, counted}
 use Rattle.paper.specs.Standing.{standing}
 use borrow.Author.Tests.{not-false}

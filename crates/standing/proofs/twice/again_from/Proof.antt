@@ -1,4 +1,4 @@
-use Rattle.standing.proofs.More.{between, between-cons, between-nil, any-step, any-stop, any-end}
+use Rattle.lists.proofs.Places.{between, between-cons, between-nil, any-step, any-stop, any-end}
 use Rattle.standing.specs.Twice.{sameAt}
 use Rattle.lists.specs.Lists.{any}
 use borrow.Author.Needs.{needs}

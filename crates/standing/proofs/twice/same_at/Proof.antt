@@ -25,9 +25,12 @@ same-at-spec =
     (λ c κs. search needs)
     (λ c. search needs)
     (λ c κs. search needs)
-    (λ c. rw (c .before .enum-told .given .1) (c .same-identifiers .ensures))
-    (λ c. rw (c .before .enum-told2 .given .1) (c .same-tokens .ensures))
-    (λ c. rw (c .before .enum-told3 .given .1) (c .same-proxies .ensures))
-    (λ c. rw (c .before .before .before .p .given .1) (c .same-luacds .ensures ∙ ap (λ a. at2 sameLunOrUnit noLuacd (luacdsOf a) (c .before .before .before .before .before .before .before .before .before .before .args .i) (c .before .before .before .before .before .before .before .before .before .before .args .j)) (c .before .ace-at .ensures)))
-    (λ c. rw (c .before .enum-told4 .given .1) (c .same-transports .ensures))
-    (λ c. rw (c .before .enum-told5 .given .1) (c .same-defaults .ensures)))
+    (λ c. rw (c .before .before .enum-told .given .1) (c .same-identifiers .ensures))
+    (λ c. rw (c .before .before .enum-told2 .given .1) (c .same-tokens .ensures))
+    (λ c. rw (c .before .before .enum-told3 .given .1) (c .same-proxies .ensures))
+    (λ c.
+    let z = c .before .before .before .before .before .before .args in
+    rw (c .before .before .before .before .p .given .1)
+    (c .same-luacds .ensures ∙ ap (λ a. at2 sameLunOrUnit noLuacd (luacdsOf a) (z .i) (z .j)) (c .before .ace-at .ensures)))
+    (λ c. rw (c .before .before .enum-told4 .given .1) (c .same-transports .ensures))
+    (λ c. rw (c .before .before .enum-told5 .given .1) (c .same-defaults .ensures)))

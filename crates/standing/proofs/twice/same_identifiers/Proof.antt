@@ -1,4 +1,4 @@
-use Rattle.standing.proofs.More.{both}
+use Rattle.lists.proofs.Places.{both}
 use Rattle.paper.specs.Standing.{sameAce}
 use mathlib.Core.Path.{_∙_}
 use borrow.Author.Needs.{needs}

@@ -1,4 +1,4 @@
-use Rattle.standing.proofs.More.{both}
+use Rattle.lists.proofs.Places.{both}
 use Rattle.paper.specs.Standing.{sameProxy}
 use borrow.Author.Tests.{eq-eqb, ne-eqb}
 use borrow.Author.Needs.{needs}

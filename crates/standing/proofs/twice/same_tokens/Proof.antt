@@ -1,4 +1,4 @@
-use Rattle.standing.proofs.More.{both}
+use Rattle.lists.proofs.Places.{both}
 use Rattle.paper.specs.Standing.{sameToken}
 use borrow.Author.Needs.{needs}
 use Rattle.standing.proofs.twice.same_tokens.Statement.{statement}

@@ -1,4 +1,4 @@
-use Rattle.standing.proofs.More.{tail-capped, both}
+use Rattle.lists.proofs.Places.{tail-capped, both}
 use Rattle.lists.specs.Bytes.{sameBytes}
 use lib.ListN.{length}
 use mathlib.Core.Path.{_≡_}

@@ -1,4 +1,4 @@
-use Rattle.standing.proofs.More.{between, between-cons, between-nil, below-between, pairs-step, pairs-stop, pairs-end}
+use Rattle.lists.proofs.Places.{between, between-cons, between-nil, below-between, pairs-step, pairs-stop, pairs-end}
 use Rattle.standing.specs.Twice.{sameAt}
 use Rattle.lists.specs.Lists.{pairs, below}
 use mathlib.Core.Path.{_≡_, sym, _∙_}

@@ -1,4 +1,4 @@
--- Laws of lists by their places.
+-- Lists by their places: the entries in use of a table, one turn of a loop over what is left, early returns.
 use Prim.Native.Nat.{ℕ, zero, suc, _+_, _-_, _*_, _≤_, _<_, min}
 use mathlib.Core.Path.{_≡_, refl, ap, sym, _∙_}
 use mathlib.Core.List.{List, [], _∷_, map}
