@@ -4,15 +4,13 @@ ghost use lib.ListN.{getD, take};
 ghost use lib.Dec.{ltb};
 ghost use Rattle.lists.specs.Lists.{all, below, isSome};
 ghost use Rattle.paper.specs.Tables.{noAce, acesOf, tokensOf, proxiesOf};
-ghost use Rattle.paper.specs.Rows.{aceFor, tokenFor};
+ghost use Rattle.paper.specs.Rows.{tokenFor};
 ghost use Rattle.paper.specs.Standing.{lunStands, validId, luacdsOf, holdsSome, aceFormed, onceListed, tokenRefers, proxyRefers};
-ghost use Rattle.paper.specs.declared.state.IdType.the-variants.{AccessId};
 ghost use Rattle.standing.specs.Keeps.{luacdTest, aceTest, tokenTest, proxyTest, enrolmentKeeps, transportKeeps, holdsAt};
 use crate::entries;
 use crate::twice;
 use crate::twice::Pairing;
 use paper::state::Ace;
-use paper::state::Acl;
 use paper::state::Coordinator;
 use paper::state::Extent;
 use paper::state::IdType;
@@ -21,6 +19,7 @@ use paper::state::Luacd;
 use paper::state::ProxyLun;
 use paper::state::Token;
 use paper::state::Tokens;
+use tables::aces;
 use tables::lookups;
 use tables::lookups::TokenFound;
 
@@ -197,12 +196,6 @@ fn proxy_keeps(c: Coordinator, rule: ProxyRule, p: ProxyLun) -> bool
     }
 }
 
-fn has_ace(acl: Acl, id: &[u8]) -> bool
-    ensures { λ r. ⌜ r ≡ isSome (aceFor (take (acl .count) (acl .items)) AccessId (now (id .entry))) ⌝ }
-{
-    lookups::ace_place(acl, IdType::AccessId, id) < entries::aces_in(acl)
-}
-
 // Whether an initiator that is enrolled or pending is so under an AccessID that has an ACE.
 fn enrolment_keeps(c: Coordinator, i: usize) -> bool
     ensures { λ r. ⌜ r ≡ enrolmentKeeps c i ⌝ }
@@ -216,7 +209,7 @@ fn enrolment_keeps(c: Coordinator, i: usize) -> bool
     let from = at + 1;
     let to = at + 25;
     match bytes[at] {
-        1 | 2 => has_ace(acl, &bytes[from..to]),
+        1 | 2 => aces::has_ace(acl, IdType::AccessId, &bytes[from..to]),
         _ => true,
     }
 }
