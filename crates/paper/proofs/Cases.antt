@@ -13,10 +13,10 @@ use Rattle.paper.specs.Identifiers.{sameId, lessId, validTransport}
 use Rattle.paper.specs.Answers.{senseBytes, senseOf}
 use Rattle.paper.specs.Setup.{setupRules, fresh}
 use Rattle.paper.specs.Rows.{aceFor, numbered, transportRows, enrolmentRows, tokenFor, proxyRows, openRows, rowsOf, clashing, someClash, rowWith, pendingHas}
-use Rattle.paper.specs.Standing.{setupStands, countsStand, identifiersStand, proxiesStand, luacdsStand, listsStand, formsStand, tokensStand, referencesStand, noClash, generationStands, offStands, standing}
+use Rattle.paper.specs.Standing.{setupKept, withinSizes, identifiersOnce, presentOnce, luacdsOnce, listsFilled, wellFormed, tokensNonzero, referencesThere, noClash, generationRight, emptyWhileOff, standing}
 use Rattle.paper.specs.Orders.{readIn, exactly, readManage, readCancel, readOut, readingOf}
 use Rattle.paper.specs.Effects.{putAce, applied, appliedAll}
-use Rattle.paper.specs.Pages.{acePages, descriptorIn, descriptorsIn, standingIn, standingLuacds, badIdentifier, badListPage, badAllPage, badPage, sameGrant, badPlaces, tokensIn, pageEffects, manageEffects}
+use Rattle.paper.specs.Pages.{acePages, descriptorIn, descriptorsIn, notOverruled, pageLuacds, badIdentifier, badListPage, badAllPage, badPage, sameGrant, badPlaces, tokensIn, pageEffects, manageEffects}
 use Rattle.paper.specs.Tests.{malformed, tooMany, manageTests, keyTests, enrollTests, requestTests, assignTests, releaseTests, testsOn, testsOff, tests, effectsOn, effectsOff, effects}
 use Rattle.paper.specs.Reports.{luacdBytes, identifierBytes, aceBytes, tokenBytes, proxyPage, reportPages, reportBytes, rowBefore, reachRows, rowBytes, reachBytes}
 use Rattle.paper.specs.Outcomes.{replyTo, decideOrder, decideReading, decideCommand, decideLink, outcomeOf}
@@ -70,7 +70,7 @@ lastSense w ss s =
 
 -- the LUACDs of a page that stand, each as its LUN and its unit
 abbrev placed : List (List ℕ) → List ℕ
-placed ds = gather (λ p. p .lun ∷ (p .unit ∷ [])) (standingLuacds (shelf .luns) (grant 0 access ds))
+placed ds = gather (λ p. p .lun ∷ (p .unit ∷ [])) (pageLuacds (shelf .luns) (grant 0 access ds))
 
 -- T has 1 to u0, and an AccessID's ACE has a LUN to a unit
 abbrev granted : ℕ → ℕ → List Sent
@@ -130,5 +130,5 @@ cases =
     ∷ []
 
 pub starred : map (λ x. x .got) cases ≡ map (λ x. x .paper) cases
-unfolding find placeOf keep any all pairs gather parts count insert sort be beBytes sameBytes lessBytes pageSize pagesUpTo pagesOf wholePage sameId lessId validTransport senseBytes setupRules fresh aceFor numbered transportRows enrolmentRows tokenFor proxyRows openRows rowsOf clashing someClash rowWith pendingHas setupStands countsStand identifiersStand proxiesStand luacdsStand listsStand formsStand tokensStand referencesStand noClash generationStands offStands standing readIn exactly readManage readCancel readOut readingOf putAce applied appliedAll acePages descriptorIn descriptorsIn standingIn standingLuacds badIdentifier badListPage badAllPage badPage sameGrant badPlaces tokensIn pageEffects manageEffects malformed tooMany manageTests keyTests enrollTests requestTests assignTests releaseTests testsOn testsOff tests effectsOn effectsOff effects luacdBytes identifierBytes aceBytes tokenBytes proxyPage reportPages reportBytes rowBefore reachRows rowBytes reachBytes replyTo decideOrder decideReading decideCommand decideLink run
+unfolding find placeOf keep any all pairs gather parts count insert sort be beBytes sameBytes lessBytes pageSize pagesUpTo pagesOf wholePage sameId lessId validTransport senseBytes setupRules fresh aceFor numbered transportRows enrolmentRows tokenFor proxyRows openRows rowsOf clashing someClash rowWith pendingHas setupKept withinSizes identifiersOnce presentOnce luacdsOnce listsFilled wellFormed tokensNonzero referencesThere noClash generationRight emptyWhileOff standing readIn exactly readManage readCancel readOut readingOf putAce applied appliedAll acePages descriptorIn descriptorsIn notOverruled pageLuacds badIdentifier badListPage badAllPage badPage sameGrant badPlaces tokensIn pageEffects manageEffects malformed tooMany manageTests keyTests enrollTests requestTests assignTests releaseTests testsOn testsOff tests effectsOn effectsOff effects luacdBytes identifierBytes aceBytes tokenBytes proxyPage reportPages reportBytes rowBefore reachRows rowBytes reachBytes replyTo decideOrder decideReading decideCommand decideLink run
 starred = refl

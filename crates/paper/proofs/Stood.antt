@@ -7,37 +7,37 @@ use Rattle.lists.specs.Lists.{all}
 use Rattle.lists.proofs.Tests.{and-true}
 use borrow.Author.Tests.{leb-true}
 use Rattle.paper.specs.Tables.{acesOf}
-use Rattle.paper.specs.Standing.{setupStands, countsStand, identifiersStand, proxiesStand, luacdsStand, listsStand, formsStand, tokensStand, referencesStand, noClash, generationStands, offStands, standing, fewLuacds}
+use Rattle.paper.specs.Standing.{setupKept, withinSizes, identifiersOnce, presentOnce, luacdsOnce, listsFilled, wellFormed, tokensNonzero, referencesThere, noClash, generationRight, emptyWhileOff, standing, fewLuacds}
 use Rattle.paper.specs.declared.state.Coordinator.{Coordinator}
 
 pub record Stood (c : Coordinator) : Type 0 where
-  pub setup : setupStands c ≡ true
-  pub counts : countsStand c ≡ true
-  pub identifiers : identifiersStand c ≡ true
-  pub proxies : proxiesStand c ≡ true
-  pub luacds : luacdsStand c ≡ true
-  pub lists : listsStand c ≡ true
-  pub forms : formsStand c ≡ true
-  pub tokens : tokensStand c ≡ true
-  pub references : referencesStand c ≡ true
+  pub setup : setupKept c ≡ true
+  pub counts : withinSizes c ≡ true
+  pub identifiers : identifiersOnce c ≡ true
+  pub proxies : presentOnce c ≡ true
+  pub luacds : luacdsOnce c ≡ true
+  pub lists : listsFilled c ≡ true
+  pub forms : wellFormed c ≡ true
+  pub tokens : tokensNonzero c ≡ true
+  pub references : referencesThere c ≡ true
   pub clashes : noClash c ≡ true
-  pub generation : generationStands c ≡ true
-  pub off : offStands c ≡ true
+  pub generation : generationRight c ≡ true
+  pub off : emptyWhileOff c ≡ true
 
 pub stood : (c : Coordinator) → standing c ≡ true → Stood c
 unfolding standing
 stood c h =
-    let a = and-true (setupStands c) _ h in
-    let b = and-true (countsStand c) _ (a .1) in
-    let d = and-true (identifiersStand c) _ (b .1) in
-    let e = and-true (proxiesStand c) _ (d .1) in
-    let f = and-true (luacdsStand c) _ (e .1) in
-    let g = and-true (listsStand c) _ (f .1) in
-    let i = and-true (formsStand c) _ (g .1) in
-    let j = and-true (tokensStand c) _ (i .1) in
-    let k = and-true (referencesStand c) _ (j .1) in
+    let a = and-true (setupKept c) _ h in
+    let b = and-true (withinSizes c) _ (a .1) in
+    let d = and-true (identifiersOnce c) _ (b .1) in
+    let e = and-true (presentOnce c) _ (d .1) in
+    let f = and-true (luacdsOnce c) _ (e .1) in
+    let g = and-true (listsFilled c) _ (f .1) in
+    let i = and-true (wellFormed c) _ (g .1) in
+    let j = and-true (tokensNonzero c) _ (i .1) in
+    let k = and-true (referencesThere c) _ (j .1) in
     let l = and-true (noClash c) _ (k .1) in
-    let m = and-true (generationStands c) _ (l .1) in
+    let m = and-true (generationRight c) _ (l .1) in
     record {
       setup = a .0;
       counts = b .0;
@@ -62,8 +62,8 @@ pub record Counted (c : Coordinator) : Type 0 where
   pub few-tokens : c .tokens .count ≤ 32
   pub few-proxies : c .proxies .count ≤ 32
 
-pub counted : (c : Coordinator) → countsStand c ≡ true → Counted c
-unfolding countsStand
+pub counted : (c : Coordinator) → withinSizes c ≡ true → Counted c
+unfolding withinSizes
 counted c h =
     let a = and-true (leb (c .initiators .count) 16) _ h in
     let b = and-true (leb (c .units .count) 32) _ (a .1) in

@@ -50,14 +50,14 @@ abbrev pub endsSome : Ending → Option Token → Bool
 endsSome e none = false
 endsSome e (some t) = ends e t
 
-abbrev pub standsOnEnded : Ending → List Token → ProxyLun → Bool
-standsOnEnded e ts p = endsSome e (tokenFor ts (p .token))
+abbrev pub restsOnEnded : Ending → List Token → ProxyLun → Bool
+restsOnEnded e ts p = endsSome e (tokenFor ts (p .token))
 
 abbrev pub outlives : Ending → Token → Bool
 outlives e t = not (ends e t)
 
 abbrev pub keptBy : Ending → List Token → ProxyLun → Bool
-keptBy e ts p = not (standsOnEnded e ts p)
+keptBy e ts p = not (restsOnEnded e ts p)
 
 -- the unit that a LUN opens for an initiator by a T or A row
 abbrev pub unitIn : Option Row → ℕ

@@ -99,9 +99,9 @@ tokensIn page = map tokenIn (parts 8 (pageLength page / 8) (drop 4 page))
 abbrev pub overrules : Descriptor → Descriptor → Bool
 overrules d later = eqb (later .lun) (d .lun) || eqb (later .default) (d .default)
 
-unfoldable pub standingIn : List Descriptor → List Descriptor
-standingIn [] = []
-standingIn (d ∷ ds) = cond (any (overrules d) ds) (standingIn ds) (d ∷ standingIn ds)
+unfoldable pub notOverruled : List Descriptor → List Descriptor
+notOverruled [] = []
+notOverruled (d ∷ ds) = cond (any (overrules d) ds) (notOverruled ds) (d ∷ notOverruled ds)
 
 -- the unit with a default LUN, and the place that a LUACD gives it
 abbrev pub isDefault : ℕ → ℕ → Bool
@@ -110,8 +110,8 @@ isDefault l head = eqb (lunOf head) l
 abbrev pub luacdOf : List ℕ → Descriptor → Luacd
 luacdOf luns d = record { lun = headOf (d .lun); unit = placeOf (isDefault (d .default)) luns }
 
-unfoldable pub standingLuacds : List ℕ → List ℕ → List Luacd
-standingLuacds luns page = map (luacdOf luns) (standingIn (descriptorsOf page))
+unfoldable pub pageLuacds : List ℕ → List ℕ → List Luacd
+pageLuacds luns page = map (luacdOf luns) (notOverruled (descriptorsOf page))
 
 -- ---- phase 3: "26h/00h"
 -- "identifier type not 00h (AccessID) or 01h; identifier length not 24; bad TransportID"
@@ -163,7 +163,7 @@ badPlaces luns page = eqb (pageCode page) 0x00 && any (badPlace luns) (descripto
 unfoldable pub pageEffects : List ℕ → List ℕ → List Effect
 pageEffects luns page =
     cond (eqb (pageCode page) 0x00)
-    (granted (pageType page) (keptId page) (these (standingLuacds luns page)) (nocnclOf page) ∷ [])
+    (granted (pageType page) (keptId page) (these (pageLuacds luns page)) (nocnclOf page) ∷ [])
     (cond (eqb (pageCode page) 0x01) (granted (pageType page) (keptId page) everything (nocnclOf page) ∷ [])
     (cond (eqb (pageCode page) 0x02) (ended (listed (tokensIn page)) ∷ [])
     (cond (eqb (pageCode page) 0x03) (ended allTokens ∷ [])

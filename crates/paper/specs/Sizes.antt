@@ -1,5 +1,5 @@
 -- "Sizes: 16 initiators, 32 units, 32 ACEs, 16 LUACDs standing in one ACE, 32 live tokens, 32 proxy LUNs over all initiators."
-use Prim.Native.Nat.{ℕ}
+use Prim.Native.Nat.{ℕ, _+_, _*_}
 
 abbrev pub maxInitiators : ℕ
 maxInitiators = 16
@@ -23,6 +23,13 @@ maxProxies = 32
 abbrev pub idSize : ℕ
 idSize = 24
 
--- an enrolment is kept in 25 bytes: its stage, and the AccessID
+-- an enrolment is kept as its stage, one byte, and the AccessID
 abbrev pub enrolmentSize : ℕ
-enrolmentSize = 25
+enrolmentSize = 1 + idSize
+
+-- the bytes of the TransportIDs, and of the enrolments, of as many initiators as there may be
+abbrev pub idsSize : ℕ
+idsSize = maxInitiators * idSize
+
+abbrev pub enrolmentsSize : ℕ
+enrolmentsSize = maxInitiators * enrolmentSize

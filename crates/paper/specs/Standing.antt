@@ -19,15 +19,15 @@ use Rattle.paper.specs.declared.state.ProxyLun.{ProxyLun}
 use Rattle.paper.specs.declared.state.Coordinator.{Coordinator}
 
 -- "a setup rule"
-unfoldable pub setupStands : Coordinator → Bool
-setupStands c = setupRules (transportsOf c) (map lunOf (unitsOf c))
+unfoldable pub setupKept : Coordinator → Bool
+setupKept c = setupRules (transportsOf c) (map lunOf (unitsOf c))
 
 -- "a count over its size"
 abbrev pub fewLuacds : Ace → Bool
 fewLuacds a = leb (a .count) maxLuacds
 
-unfoldable pub countsStand : Coordinator → Bool
-countsStand c =
+unfoldable pub withinSizes : Coordinator → Bool
+withinSizes c =
     leb (c .initiators .count) maxInitiators
     && (leb (c .units .count) maxUnits
     && (leb (c .acl .count) maxAces
@@ -39,8 +39,8 @@ countsStand c =
 abbrev pub sameAce : Ace → Ace → Bool
 sameAce a b = sameId (a .kind) (a .id) (b .kind) (b .id)
 
-unfoldable pub identifiersStand : Coordinator → Bool
-identifiersStand c = not (pairs sameAce (acesOf c))
+unfoldable pub identifiersOnce : Coordinator → Bool
+identifiersOnce c = not (pairs sameAce (acesOf c))
 
 -- "a token or one initiator's proxy LUN present twice"
 abbrev pub sameToken : Token → Token → Bool
@@ -49,8 +49,8 @@ sameToken t s = eqb (t .number) (s .number)
 abbrev pub sameProxy : ProxyLun → ProxyLun → Bool
 sameProxy p q = eqb (p .initiator) (q .initiator) && eqb (p .lun) (q .lun)
 
-unfoldable pub proxiesStand : Coordinator → Bool
-proxiesStand c = not (pairs sameToken (tokensOf c)) && not (pairs sameProxy (proxiesOf c))
+unfoldable pub presentOnce : Coordinator → Bool
+presentOnce c = not (pairs sameToken (tokensOf c)) && not (pairs sameProxy (proxiesOf c))
 
 -- "a LUN or unit twice in one ACE"
 abbrev pub sameLunOrUnit : Luacd → Luacd → Bool
@@ -67,8 +67,8 @@ luacdsOf a = listedIn (contentOf a)
 abbrev pub onceListed : Ace → Bool
 onceListed a = not (pairs sameLunOrUnit (luacdsOf a))
 
-unfoldable pub luacdsStand : Coordinator → Bool
-luacdsStand c = all onceListed (acesOf c)
+unfoldable pub luacdsOnce : Coordinator → Bool
+luacdsOnce c = all onceListed (acesOf c)
 
 -- "a list without LUACDs"
 abbrev pub holdsNothing : Content → Bool
@@ -79,15 +79,15 @@ holdsNothing everything = false
 abbrev pub holdsSome : Ace → Bool
 holdsSome a = not (holdsNothing (contentOf a))
 
-unfoldable pub listsStand : Coordinator → Bool
-listsStand c = all holdsSome (acesOf c)
+unfoldable pub listsFilled : Coordinator → Bool
+listsFilled c = all holdsSome (acesOf c)
 
 -- "a malformed LUN or identifier"
-abbrev pub lunStands : ℕ → Bool
-lunStands head = lunForm (lunOf head)
+abbrev pub lunFormed : ℕ → Bool
+lunFormed head = lunForm (lunOf head)
 
 abbrev pub luacdFormed : Luacd → Bool
-luacdFormed p = lunStands (p .lun)
+luacdFormed p = lunFormed (p .lun)
 
 abbrev pub validId : IdType → List ℕ → Bool
 validId AccessId id = true
@@ -97,20 +97,20 @@ abbrev pub aceFormed : Ace → Bool
 aceFormed a = validId (a .kind) (a .id) && all luacdFormed (luacdsOf a)
 
 abbrev pub tokenFormed : Token → Bool
-tokenFormed t = lunStands (t .lun)
+tokenFormed t = lunFormed (t .lun)
 
 abbrev pub proxyFormed : ProxyLun → Bool
-proxyFormed p = lunStands (p .lun)
+proxyFormed p = lunFormed (p .lun)
 
-unfoldable pub formsStand : Coordinator → Bool
-formsStand c = all aceFormed (acesOf c) && (all tokenFormed (tokensOf c) && all proxyFormed (proxiesOf c))
+unfoldable pub wellFormed : Coordinator → Bool
+wellFormed c = all aceFormed (acesOf c) && (all tokenFormed (tokensOf c) && all proxyFormed (proxiesOf c))
 
 -- "a zero token"
 abbrev pub nonzero : Token → Bool
 nonzero t = not (eqb (t .number) 0)
 
-unfoldable pub tokensStand : Coordinator → Bool
-tokensStand c = all nonzero (tokensOf c)
+unfoldable pub tokensNonzero : Coordinator → Bool
+tokensNonzero c = all nonzero (tokensOf c)
 
 -- "a reference to an absent unit, initiator, token or enrolled AccessID"
 abbrev pub unitThere : Coordinator → Luacd → Bool
@@ -133,8 +133,8 @@ enrolmentRefers c notEnrolled = true
 enrolmentRefers c (enrolled id) = hasAce c id
 enrolmentRefers c (pending id) = hasAce c id
 
-unfoldable pub referencesStand : Coordinator → Bool
-referencesStand c =
+unfoldable pub referencesThere : Coordinator → Bool
+referencesThere c =
     all (aceRefers c) (acesOf c)
     && (all (tokenRefers c) (tokensOf c)
     && (all (proxyRefers c) (proxiesOf c)
@@ -145,25 +145,25 @@ unfoldable pub noClash : Coordinator → Bool
 noClash c = not (someClash c)
 
 -- "DLgeneration not 0 disabled or 1 enabled"
-unfoldable pub generationStands : Coordinator → Bool
-generationStands c = eqb (c .generation) (cond (c .enabled) 1 0)
+unfoldable pub generationRight : Coordinator → Bool
+generationRight c = eqb (c .generation) (cond (c .enabled) 1 0)
 
 -- "an ACE, token or nonzero key while disabled"
-unfoldable pub offStands : Coordinator → Bool
-offStands c = c .enabled || (eqb (c .acl .count) 0 && (eqb (c .tokens .count) 0 && eqb (c .key) 0))
+unfoldable pub emptyWhileOff : Coordinator → Bool
+emptyWhileOff c = c .enabled || (eqb (c .acl .count) 0 && (eqb (c .tokens .count) 0 && eqb (c .key) 0))
 
 -- a state that breaks no standing rule
 unfoldable pub standing : Coordinator → Bool
 standing c =
-    setupStands c
-    && (countsStand c
-    && (identifiersStand c
-    && (proxiesStand c
-    && (luacdsStand c
-    && (listsStand c
-    && (formsStand c
-    && (tokensStand c
-    && (referencesStand c
+    setupKept c
+    && (withinSizes c
+    && (identifiersOnce c
+    && (presentOnce c
+    && (luacdsOnce c
+    && (listsFilled c
+    && (wellFormed c
+    && (tokensNonzero c
+    && (referencesThere c
     && (noClash c
-    && (generationStands c
-    && offStands c))))))))))
+    && (generationRight c
+    && emptyWhileOff c))))))))))

@@ -6,7 +6,7 @@ use lib.ListN.{length, getD, take, drop, replicate}
 use lib.Dec.{eqb}
 use Rattle.lists.specs.Lists.{parts, gather}
 use Rattle.lists.specs.Tables.{pad}
-use Rattle.paper.specs.Sizes.{maxUnits, maxAces, maxLuacds, maxTokens, maxProxies, idSize, enrolmentSize}
+use Rattle.paper.specs.Sizes.{maxUnits, maxAces, maxLuacds, maxTokens, maxProxies, idSize, enrolmentSize, idsSize, enrolmentsSize}
 use Rattle.paper.specs.Identifiers.{kept}
 use Rattle.paper.specs.declared.state.IdType.{IdType}
 use Rattle.paper.specs.declared.state.IdType.the-variants.{AccessId, TransportId}
@@ -86,12 +86,12 @@ abbrev pub unitTable : List ℕ → Units
 unitTable l = record { count = length l; luns = pad 0 maxUnits l }
 
 abbrev pub enrolmentTable : List Enrolment → List ℕ
-enrolmentTable es = pad 0 400 (gather enrolmentBytes es)
+enrolmentTable es = pad 0 enrolmentsSize (gather enrolmentBytes es)
 
 -- nobody is enrolled
 abbrev pub initiatorTable : List (List ℕ) → Initiators
 initiatorTable ids =
-    record { count = length ids; ids = pad 0 384 (gather (kept TransportId) ids); enrolments = enrolmentTable [] }
+    record { count = length ids; ids = pad 0 idsSize (gather (kept TransportId) ids); enrolments = enrolmentTable [] }
 
 -- ---- what a coordinator's tables hold
 -- the default LUNs, by unit number

@@ -5,6 +5,15 @@ ghost use mathlib.Core.List.{[]};
 ghost use Rattle.paper.specs.Tables.{noLuacd, noAce, noToken, noProxy, aclOf, tokenTable, proxyTable, initiatorTable, unitTable};
 ghost use Rattle.paper.specs.Setup.{fresh};
 
+// The bytes of an identifier, and of an enrolment: its stage and the AccessID; and of the tables that hold one for each initiator.
+pub const ID_SIZE: usize = 24;
+
+pub const ENROLMENT_SIZE: usize = 1 + ID_SIZE;
+
+pub const IDS_SIZE: usize = 16 * ID_SIZE;
+
+pub const ENROLMENTS_SIZE: usize = 16 * ENROLMENT_SIZE;
+
 // What an identifier is.
 pub enum IdType {
     AccessId,
@@ -26,7 +35,7 @@ pub struct Luacd {
 pub struct Ace {
     pub kind: IdType,
     pub extent: Extent,
-    pub id: [u8; 24],
+    pub id: [u8; ID_SIZE],
     pub count: usize,
     pub luacds: [Luacd; 16],
 }
@@ -61,11 +70,11 @@ pub struct ProxyLuns {
     pub items: [ProxyLun; 32],
 }
 
-// The initiators: 24 bytes of TransportID each, and 25 bytes of enrolment each, the stage and the AccessID.
+// The initiators: their TransportIDs one after the other, and their enrolments, each the stage and the AccessID.
 pub struct Initiators {
     pub count: usize,
-    pub ids: [u8; 384],
-    pub enrolments: [u8; 400],
+    pub ids: [u8; IDS_SIZE],
+    pub enrolments: [u8; ENROLMENTS_SIZE],
 }
 
 // The units: their default LUNs.
@@ -113,7 +122,7 @@ pub fn no_ace() -> Ace
     Ace {
         kind: IdType::AccessId,
         extent: Extent::Listed,
-        id: [0; 24],
+        id: [0; ID_SIZE],
         count: 0,
         luacds: [no_luacd(); 16],
     }
@@ -172,8 +181,8 @@ pub fn no_initiators() -> Initiators
 {
     Initiators {
         count: 0,
-        ids: [0; 384],
-        enrolments: [0; 400],
+        ids: [0; IDS_SIZE],
+        enrolments: [0; ENROLMENTS_SIZE],
     }
 }
 

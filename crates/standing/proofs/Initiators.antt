@@ -19,7 +19,7 @@ use Rattle.wire.specs.Lun.{lunOf, lunForm}
 use Rattle.paper.specs.Identifiers.{validTransport}
 use Rattle.paper.specs.Tables.{enrolmentIn, unitsOf, transportsOf, enrolmentsOf}
 use Rattle.paper.specs.Setup.{setupRules}
-use Rattle.paper.specs.Standing.{lunStands, enrolmentRefers, setupStands}
+use Rattle.paper.specs.Standing.{lunFormed, enrolmentRefers, setupKept}
 use Rattle.paper.specs.declared.state.Coordinator.{Coordinator}
 use Rattle.standing.specs.declared.keeps.Rule.the-variants.{EachEnrolment, EachTransport, EachDefault}
 use Rattle.standing.specs.declared.twice.Pairing.the-variants.{SameTransport, SameDefault}
@@ -60,7 +60,7 @@ module _ (c : Coordinator) where
 
   defaults-formed : all lunForm (map lunOf (unitsOf c)) ≡ all (holdsAt c EachDefault) (below (length (unitsOf c)))
   unfolding holdsAt
-  defaults-formed = all-map lunOf lunForm (unitsOf c) ∙ sym (all-at lunStands 0 (unitsOf c) refl)
+  defaults-formed = all-map lunOf lunForm (unitsOf c) ∙ sym (all-at lunFormed 0 (unitsOf c) refl)
 
   defaults-twice : pairs eqb (map lunOf (unitsOf c)) ≡ pairs (sameAt c SameDefault) (below (length (unitsOf c)))
   unfolding sameAt
@@ -76,8 +76,8 @@ module _ (c : Coordinator) where
       && (all (holdsAt c EachDefault) (below (length (unitsOf c)))
       && not (pairs (sameAt c SameDefault) (below (length (unitsOf c)))))))
 
-  pub setup-by : length (c .initiators .ids) ≡ 384 → length (c .units .luns) ≡ 32 → setupStands c ≡ setupBy
-  unfolding setupStands setupRules
+  pub setup-by : length (c .initiators .ids) ≡ 384 → length (c .units .luns) ≡ 32 → setupKept c ≡ setupBy
+  unfolding setupKept setupRules
   setup-by n m =
       let k : length (map lunOf (unitsOf c)) ≤ 32 = simp (length-map, length-take) (omega arith) in
       rw (length-parts 24 (c .initiators .count) (c .initiators .ids), le-leb _ _ k, transports-twice, defaults-formed, defaults-twice)

@@ -6,7 +6,7 @@ use lib.ListN.{getD, take, drop}
 use lib.Dec.{ltb}
 use Rattle.paper.specs.Sizes.{idSize, enrolmentSize}
 use Rattle.paper.specs.Tables.{noAce, noToken, noProxy, acesOf, tokensOf, proxiesOf, unitsOf, enrolmentIn}
-use Rattle.paper.specs.Standing.{fewLuacds, onceListed, holdsSome, lunStands, luacdFormed, aceFormed, aceRefers, tokenFormed, nonzero, tokenRefers, proxyFormed, proxyRefers, enrolmentRefers}
+use Rattle.paper.specs.Standing.{fewLuacds, onceListed, holdsSome, lunFormed, luacdFormed, aceFormed, aceRefers, tokenFormed, nonzero, tokenRefers, proxyFormed, proxyRefers, enrolmentRefers}
 use Rattle.paper.specs.declared.state.Luacd.{Luacd}
 use Rattle.paper.specs.declared.state.Ace.{Ace}
 use Rattle.paper.specs.declared.state.Token.{Token}
@@ -58,4 +58,4 @@ holdsAt c (EachToken r) i = tokenTest c r (getD (tokensOf c) i noToken)
 holdsAt c (EachProxy r) i = proxyTest c r (getD (proxiesOf c) i noProxy)
 holdsAt c EachEnrolment i = enrolmentKeeps c i
 holdsAt c EachTransport i = transportKeeps (c .initiators .ids) i
-holdsAt c EachDefault i = lunStands (getD (unitsOf c) i 0)
+holdsAt c EachDefault i = lunFormed (getD (unitsOf c) i 0)

@@ -5,7 +5,7 @@ ghost use lib.Dec.{ltb};
 ghost use Rattle.lists.specs.Lists.{all, below, isSome};
 ghost use Rattle.paper.specs.Tables.{noAce, acesOf, tokensOf, proxiesOf};
 ghost use Rattle.paper.specs.Rows.{tokenFor};
-ghost use Rattle.paper.specs.Standing.{lunStands, validId, luacdsOf, holdsSome, aceFormed, onceListed, tokenRefers, proxyRefers};
+ghost use Rattle.paper.specs.Standing.{lunFormed, validId, luacdsOf, holdsSome, aceFormed, onceListed, tokenRefers, proxyRefers};
 ghost use Rattle.standing.specs.Keeps.{luacdTest, aceTest, tokenTest, proxyTest, enrolmentKeeps, transportKeeps, holdsAt};
 use crate::entries;
 use crate::twice;
@@ -65,8 +65,8 @@ fn is_among(x: u8, n: usize) -> bool
     (x as usize) < n
 }
 
-fn lun_stands(head: u16) -> bool
-    ensures { λ r. ⌜ r ≡ lunStands head ⌝ }
+fn lun_formed(head: u16) -> bool
+    ensures { λ r. ⌜ r ≡ lunFormed head ⌝ }
 {
     wire::lun_form(wire::lun_of(head))
 }
@@ -75,7 +75,7 @@ fn luacd_keeps(p: Luacd, rule: LuacdRule) -> bool
     ensures { λ r. ⌜ r ≡ luacdTest rule p ⌝ }
 {
     match rule {
-        LuacdRule::LuacdFormed => lun_stands(p.lun),
+        LuacdRule::LuacdFormed => lun_formed(p.lun),
         LuacdRule::UnitThere(n) => is_among(p.unit, n),
     }
 }
@@ -161,7 +161,7 @@ fn token_keeps(c: Coordinator, rule: TokenRule, t: Token) -> bool
     ensures { λ r. ⌜ r ≡ tokenTest c rule t ⌝ }
 {
     match rule {
-        TokenRule::TokenFormed => lun_stands(t.lun),
+        TokenRule::TokenFormed => lun_formed(t.lun),
         TokenRule::Nonzero => t.number != 0,
         TokenRule::TokenRefers => token_refers(c, t),
     }
@@ -191,7 +191,7 @@ fn proxy_keeps(c: Coordinator, rule: ProxyRule, p: ProxyLun) -> bool
     ensures { λ r. ⌜ r ≡ proxyTest c rule p ⌝ }
 {
     match rule {
-        ProxyRule::ProxyFormed => lun_stands(p.lun),
+        ProxyRule::ProxyFormed => lun_formed(p.lun),
         ProxyRule::ProxyRefers => proxy_refers(c, p),
     }
 }
@@ -239,7 +239,7 @@ fn holds_at(c: Coordinator, rule: Rule, i: usize) -> bool
         Rule::EachProxy(r) => proxy_keeps(c, r, entries::proxy_at(proxies, i)),
         Rule::EachEnrolment => enrolment_keeps(c, i),
         Rule::EachTransport => transport_keeps(initiators, i),
-        Rule::EachDefault => lun_stands(entries::lun_at(units, i)),
+        Rule::EachDefault => lun_formed(entries::lun_at(units, i)),
     }
 }
 

@@ -1,7 +1,7 @@
 // Refusal 2, one function a rule, in the order and words of document 01.
 ghost use mathlib.Core.Path.{_≡_};
 ghost use Prim.Native.Nat.{_≤_};
-ghost use Rattle.paper.specs.Standing.{setupStands, countsStand, identifiersStand, proxiesStand, luacdsStand, listsStand, formsStand, tokensStand, referencesStand, noClash, generationStands, offStands, standing};
+ghost use Rattle.paper.specs.Standing.{setupKept, withinSizes, identifiersOnce, presentOnce, luacdsOnce, listsFilled, wellFormed, tokensNonzero, referencesThere, noClash, generationRight, emptyWhileOff, standing};
 use crate::entries;
 use crate::keeps;
 use crate::keeps::AceRule;
@@ -15,8 +15,8 @@ use rows::clashes;
 use tables::lookups;
 
 // "a setup rule"
-pub fn setup_stands(c: Coordinator) -> bool
-    ensures { λ r. ⌜ r ≡ setupStands c ⌝ }
+pub fn setup_kept(c: Coordinator) -> bool
+    ensures { λ r. ⌜ r ≡ setupKept c ⌝ }
 {
     let count = c.initiators.count;
     let units = c.units;
@@ -36,8 +36,8 @@ pub fn setup_stands(c: Coordinator) -> bool
 }
 
 // "a count over its size"
-pub fn counts_stand(c: Coordinator) -> bool
-    ensures { λ r. ⌜ r ≡ countsStand c ⌝ }
+pub fn within_sizes(c: Coordinator) -> bool
+    ensures { λ r. ⌜ r ≡ withinSizes c ⌝ }
 {
     if 16 < c.initiators.count {
         return false;
@@ -58,16 +58,16 @@ pub fn counts_stand(c: Coordinator) -> bool
 }
 
 // "an identifier in two ACEs of its type"
-pub fn identifiers_stand(c: Coordinator) -> bool
-    ensures { λ r. ⌜ r ≡ identifiersStand c ⌝ }
+pub fn identifiers_once(c: Coordinator) -> bool
+    ensures { λ r. ⌜ r ≡ identifiersOnce c ⌝ }
 {
     let acl = c.acl;
     !twice::twice(c, Pairing::SameIdentifier, entries::aces_in(acl))
 }
 
 // "a token or one initiator's proxy LUN present twice"
-pub fn proxies_stand(c: Coordinator) -> bool
-    ensures { λ r. ⌜ r ≡ proxiesStand c ⌝ }
+pub fn present_once(c: Coordinator) -> bool
+    ensures { λ r. ⌜ r ≡ presentOnce c ⌝ }
 {
     let tokens = c.tokens;
     let proxies = c.proxies;
@@ -78,22 +78,22 @@ pub fn proxies_stand(c: Coordinator) -> bool
 }
 
 // "a LUN or unit twice in one ACE"
-pub fn luacds_stand(c: Coordinator) -> bool
-    ensures { λ r. ⌜ r ≡ luacdsStand c ⌝ }
+pub fn luacds_once(c: Coordinator) -> bool
+    ensures { λ r. ⌜ r ≡ luacdsOnce c ⌝ }
 {
     keeps::aces_keep(c, AceRule::OnceListed)
 }
 
 // "a list without LUACDs"
-pub fn lists_stand(c: Coordinator) -> bool
-    ensures { λ r. ⌜ r ≡ listsStand c ⌝ }
+pub fn lists_filled(c: Coordinator) -> bool
+    ensures { λ r. ⌜ r ≡ listsFilled c ⌝ }
 {
     keeps::aces_keep(c, AceRule::HoldsSome)
 }
 
 // "a malformed LUN or identifier"
-pub fn forms_stand(c: Coordinator) -> bool
-    ensures { λ r. ⌜ r ≡ formsStand c ⌝ }
+pub fn well_formed(c: Coordinator) -> bool
+    ensures { λ r. ⌜ r ≡ wellFormed c ⌝ }
 {
     if !keeps::aces_keep(c, AceRule::AceFormed) {
         return false;
@@ -105,15 +105,15 @@ pub fn forms_stand(c: Coordinator) -> bool
 }
 
 // "a zero token"
-pub fn tokens_stand(c: Coordinator) -> bool
-    ensures { λ r. ⌜ r ≡ tokensStand c ⌝ }
+pub fn tokens_nonzero(c: Coordinator) -> bool
+    ensures { λ r. ⌜ r ≡ tokensNonzero c ⌝ }
 {
     keeps::tokens_keep(c, TokenRule::Nonzero)
 }
 
 // "a reference to an absent unit, initiator, token or enrolled AccessID"
-pub fn references_stand(c: Coordinator) -> bool
-    ensures { λ r. ⌜ r ≡ referencesStand c ⌝ }
+pub fn references_there(c: Coordinator) -> bool
+    ensures { λ r. ⌜ r ≡ referencesThere c ⌝ }
 {
     if !keeps::aces_keep(c, AceRule::AceRefers) {
         return false;
@@ -140,8 +140,8 @@ pub fn no_clash(c: Coordinator) -> bool
 }
 
 // "DLgeneration not 0 disabled or 1 enabled"
-pub fn generation_stands(c: Coordinator) -> bool
-    ensures { λ r. ⌜ r ≡ generationStands c ⌝ }
+pub fn generation_right(c: Coordinator) -> bool
+    ensures { λ r. ⌜ r ≡ generationRight c ⌝ }
 {
     if c.enabled {
         return c.generation == 1;
@@ -150,8 +150,8 @@ pub fn generation_stands(c: Coordinator) -> bool
 }
 
 // "an ACE, token or nonzero key while disabled"
-pub fn off_stands(c: Coordinator) -> bool
-    ensures { λ r. ⌜ r ≡ offStands c ⌝ }
+pub fn empty_while_off(c: Coordinator) -> bool
+    ensures { λ r. ⌜ r ≡ emptyWhileOff c ⌝ }
 {
     if c.enabled {
         return true;
@@ -169,38 +169,38 @@ pub fn off_stands(c: Coordinator) -> bool
 pub fn standing(c: Coordinator) -> bool
     ensures { λ r. ⌜ r ≡ standing c ⌝ }
 {
-    if !setup_stands(c) {
+    if !setup_kept(c) {
         return false;
     }
-    if !counts_stand(c) {
+    if !within_sizes(c) {
         return false;
     }
-    if !identifiers_stand(c) {
+    if !identifiers_once(c) {
         return false;
     }
-    if !proxies_stand(c) {
+    if !present_once(c) {
         return false;
     }
-    if !luacds_stand(c) {
+    if !luacds_once(c) {
         return false;
     }
-    if !lists_stand(c) {
+    if !lists_filled(c) {
         return false;
     }
-    if !forms_stand(c) {
+    if !well_formed(c) {
         return false;
     }
-    if !tokens_stand(c) {
+    if !tokens_nonzero(c) {
         return false;
     }
-    if !references_stand(c) {
+    if !references_there(c) {
         return false;
     }
     if !no_clash(c) {
         return false;
     }
-    if !generation_stands(c) {
+    if !generation_right(c) {
         return false;
     }
-    off_stands(c)
+    empty_while_off(c)
 }

@@ -24,7 +24,7 @@ use Rattle.tables.specs.Changes.{changed, changedAt, storedFor, storedBy
 use Rattle.lists.proofs.Tables.{grown-run}
 use Rattle.tables.specs.declared.enrolments.Stored.{Stored}
 use Rattle.tables.specs.declared.enrolments.Change.{Change}
-use Rattle.tables.specs.declared.enrolments.Change.the-variants.{Joined, Left, Lost, Flushed, EndedUnder}
+use Rattle.tables.specs.declared.enrolments.Change.the-variants.{Joined, Left, LinkEvent, Flushed, EndedUnder}
 
 -- ---- one enrolment, by its stage
 pub suspended-other : (stage : ℕ) (access : List ℕ) → eqb stage 1 ≡ false → suspended (enrolmentAt stage access) ≡ enrolmentAt stage access
@@ -87,7 +87,7 @@ module _ (n : ℕ) (bytes : List ℕ) (i : ℕ) where
 pub changed-length : (change : Change) (id : List ℕ) (es : List Enrolment) → length (changed change id es) ≡ length es
 changed-length (Joined j) id es = length-set es j (enrolled id)
 changed-length (Left j) id es = length-set es j notEnrolled
-changed-length (Lost j) id es = length-set es j (suspended (getD es j notEnrolled))
+changed-length (LinkEvent j) id es = length-set es j (suspended (getD es j notEnrolled))
 changed-length Flushed id es = simp length-map
 changed-length EndedUnder id es = simp length-map
 
@@ -100,7 +100,7 @@ set-at es i j f h =
 pub changed-at : (change : Change) (id : List ℕ) (es : List Enrolment) (i : ℕ) → i < length es → getD (changed change id es) i notEnrolled ≡ changedAt change id i (getD es i notEnrolled)
 changed-at (Joined j) id es i h = set-at es i j (λ e. enrolled id) h
 changed-at (Left j) id es i h = set-at es i j (λ e. notEnrolled) h
-changed-at (Lost j) id es i h = set-at es i j suspended h
+changed-at (LinkEvent j) id es i h = set-at es i j suspended h
 changed-at Flushed id es i h = List·getD-map suspended es i notEnrolled
 changed-at EndedUnder id es i h = List·getD-map (endedUnder id) es i notEnrolled
 

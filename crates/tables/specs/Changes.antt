@@ -11,14 +11,14 @@ use Rattle.paper.specs.Tables.{Enrolment, notEnrolled, enrolled, pending}
 use Rattle.paper.specs.Effects.{suspended, endedUnder}
 use Rattle.paper.specs.declared.state.IdType.the-variants.{AccessId}
 use Rattle.tables.specs.declared.enrolments.Change.{Change}
-use Rattle.tables.specs.declared.enrolments.Change.the-variants.{Joined, Left, Lost, Flushed, EndedUnder}
+use Rattle.tables.specs.declared.enrolments.Change.the-variants.{Joined, Left, LinkEvent, Flushed, EndedUnder}
 use Rattle.tables.specs.declared.enrolments.Stored.{Stored}
 
 -- the enrolments after a change; the AccessID is the one that is joined, or under which enrolments end
 abbrev pub changed : Change → List ℕ → List Enrolment → List Enrolment
 changed (Joined i) id es = set es i (enrolled id)
 changed (Left i) id es = set es i notEnrolled
-changed (Lost i) id es = set es i (suspended (getD es i notEnrolled))
+changed (LinkEvent i) id es = set es i (suspended (getD es i notEnrolled))
 changed Flushed id es = map suspended es
 changed EndedUnder id es = map (endedUnder id) es
 
@@ -26,7 +26,7 @@ changed EndedUnder id es = map (endedUnder id) es
 abbrev pub changedAt : Change → List ℕ → ℕ → Enrolment → Enrolment
 changedAt (Joined j) id i e = cond (eqb i j) (enrolled id) e
 changedAt (Left j) id i e = cond (eqb i j) notEnrolled e
-changedAt (Lost j) id i e = cond (eqb i j) (suspended e) e
+changedAt (LinkEvent j) id i e = cond (eqb i j) (suspended e) e
 changedAt Flushed id i e = suspended e
 changedAt EndedUnder id i e = endedUnder id e
 

@@ -18,7 +18,7 @@ use paper::state::Initiators;
 pub enum Change {
     Joined(usize),
     Left(usize),
-    Lost(usize),
+    LinkEvent(usize),
     Flushed,
     EndedUnder,
 }
@@ -134,7 +134,7 @@ fn changed_stored(change: Change, i: usize, stage: u8, access: [u8; 24], id: &[u
             }
             same_stored(stage, access)
         }
-        Change::Lost(j) => {
+        Change::LinkEvent(j) => {
             if i == j {
                 return suspended_stored(stage, access);
             }

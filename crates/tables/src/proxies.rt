@@ -4,7 +4,7 @@ ghost use mathlib.Core.List.{[], _∷_, _++_};
 ghost use Prim.Native.Nat.{_<_};
 ghost use lib.ListN.{take};
 ghost use Rattle.lists.specs.Lists.{any, keep};
-ghost use Rattle.paper.specs.Effects.{standsOnEnded, keptBy, isProxy, otherProxy};
+ghost use Rattle.paper.specs.Effects.{restsOnEnded, keptBy, isProxy, otherProxy};
 ghost use Rattle.paper.specs.Tables.{proxyTable};
 ghost use Rattle.tables.specs.Endings.{endingOf};
 use crate::lookups;
@@ -17,8 +17,8 @@ use paper::state::ProxyLuns;
 use paper::state::Tokens;
 
 // Whether the token that a proxy LUN stands on ends.
-pub fn stands_on_ended(ts: Tokens, e: EndKind, page: &[u8], p: ProxyLun) -> bool
-    ensures { λ r. ⌜ r ≡ standsOnEnded (endingOf e (now (page .entry))) (take (ts .count) (ts .items)) p ⌝ }
+pub fn rests_on_ended(ts: Tokens, e: EndKind, page: &[u8], p: ProxyLun) -> bool
+    ensures { λ r. ⌜ r ≡ restsOnEnded (endingOf e (now (page .entry))) (take (ts .count) (ts .items)) p ⌝ }
 {
     let TokenFound::Live(t) = lookups::token_for(ts, p.token) else {
         return false;
@@ -38,7 +38,7 @@ pub fn proxies_after(ps: ProxyLuns, ts: Tokens, e: EndKind, page: &[u8]) -> Prox
     let mut i = 0;
     while i < count {
         let p = from[i];
-        if !stands_on_ended(ts, e, page, p) {
+        if !rests_on_ended(ts, e, page, p) {
             items[kept] = p;
             kept += 1;
         }

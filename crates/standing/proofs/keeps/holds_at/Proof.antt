@@ -1,5 +1,5 @@
 use Rattle.standing.specs.Keeps.{tokenTest, proxyTest, holdsAt}
-use Rattle.paper.specs.Standing.{lunStands}
+use Rattle.paper.specs.Standing.{lunFormed}
 use mathlib.Core.Path.{ap, _∙_}
 use borrow.Author.Needs.{needs}
 use Rattle.standing.proofs.keeps.holds_at.Statement.{statement}
@@ -30,4 +30,4 @@ holds-at-spec =
     (λ c. rw (c .before .before .before .rule3 .given .1) (c .proxy-keeps .ensures ∙ ap (proxyTest (c .before .before .before .before .before .before .before .before .before .args .c) (c .before .before .before .rule3 .given .0 .0)) (c .before .proxy-at .ensures)))
     (λ c. rw (c .before .enum-told .given .1) (c .enrolment-keeps .ensures))
     (λ c. rw (c .before .enum-told2 .given .1) (c .transport-keeps .ensures))
-    (λ c. rw (c .before .before .enum-told3 .given .1) (c .lun-stands .ensures ∙ ap lunStands (c .before .lun-at .ensures))))
+    (λ c. rw (c .before .before .enum-told3 .given .1) (c .lun-formed .ensures ∙ ap lunFormed (c .before .lun-at .ensures))))

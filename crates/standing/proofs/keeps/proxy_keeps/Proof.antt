@@ -10,5 +10,5 @@ proxy-keeps-spec =
     (λ c κs. search needs)
     (λ c. search needs)
     (λ c κs. search needs)
-    (λ c. rw (c .before .enum-told .given .1) (c .lun-stands .ensures))
+    (λ c. rw (c .before .enum-told .given .1) (c .lun-formed .ensures))
     (λ c. rw (c .before .enum-told2 .given .1) (c .proxy-refers .ensures)))

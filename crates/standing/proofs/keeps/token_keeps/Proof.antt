@@ -11,6 +11,6 @@ token-keeps-spec =
     (λ c. search needs)
     (λ c. search needs)
     (λ c κs. search needs)
-    (λ c. rw (c .before .enum-told .given .1) (c .lun-stands .ensures))
+    (λ c. rw (c .before .enum-told .given .1) (c .lun-formed .ensures))
     (λ c. rw (c .before .enum-told2 .given .1))
     (λ c. rw (c .before .enum-told3 .given .1) (c .token-refers .ensures)))

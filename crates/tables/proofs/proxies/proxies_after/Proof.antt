@@ -39,7 +39,7 @@ proxies-after-spec =
     (λ c.
     let a = c .before .before .before in
     ⊎-elim
-    (λ w. sift-keeps (a .before .loop .inv) noProxy (a .loop-test .taken) (rw (← c .before .stands-on-ended .ensures) (w .0 .taken)) (w .1) (w .2))
-    (λ w. sift-drops (a .before .loop .inv) noProxy (a .loop-test .taken) (rw (← c .before .stands-on-ended .ensures) (w .0 .left)) (w .1) (w .2))
+    (λ w. sift-keeps (a .before .loop .inv) noProxy (a .loop-test .taken) (rw (← c .before .rests-on-ended .ensures) (w .0 .taken)) (w .1) (w .2))
+    (λ w. sift-drops (a .before .loop .inv) noProxy (a .loop-test .taken) (rw (← c .before .rests-on-ended .ensures) (w .0 .left)) (w .1) (w .2))
     (c .if1 .came))
     (λ c. proxy-table (sift-end (c .before .loop .inv) (c .loop-test .left))))

@@ -9,11 +9,11 @@ use borrow.Author.Tests.{le-leb, lt-leb, not-true, not-false}
 use mathlib.Core.Bool.{not}
 use mathlib.Core.Path.{refl, ap, sym, _∙_}
 use borrow.Author.Needs.{needs}
-use Rattle.standing.proofs.rules.setup_stands.Statement.{statement}
-use Rattle.standing.proofs.rules.setup_stands.Tie as tie
+use Rattle.standing.proofs.rules.setup_kept.Statement.{statement}
+use Rattle.standing.proofs.rules.setup_kept.Tie as tie
 
-pub setup-stands-spec : {M : Type 1} → statement M
-setup-stands-spec =
+pub setup-kept-spec : {M : Type 1} → statement M
+setup-kept-spec =
     tie.close
     (tie.spec
     (λ c. and-no _ refl (lt-leb _ _ (c .if1 .taken)) ∙ sym (setup-by (c .before .before .args .c) (search needs) (search needs)))

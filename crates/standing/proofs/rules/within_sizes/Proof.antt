@@ -1,14 +1,14 @@
 use Rattle.lists.proofs.Places.{and-no, and-yes}
-use Rattle.paper.specs.Standing.{countsStand}
+use Rattle.paper.specs.Standing.{withinSizes}
 use borrow.Author.Tests.{le-leb, lt-leb, not-true, not-false}
 use mathlib.Core.Path.{refl}
 use borrow.Author.Needs.{needs}
-use Rattle.standing.proofs.rules.counts_stand.Statement.{statement}
-use Rattle.standing.proofs.rules.counts_stand.Tie as tie
+use Rattle.standing.proofs.rules.within_sizes.Statement.{statement}
+use Rattle.standing.proofs.rules.within_sizes.Tie as tie
 
-pub counts-stand-spec : {M : Type 1} → statement M
-unfolding countsStand
-counts-stand-spec =
+pub within-sizes-spec : {M : Type 1} → statement M
+unfolding withinSizes
+within-sizes-spec =
     tie.close
     (tie.spec
     (λ c. and-no _ refl (lt-leb _ _ (c .if1 .taken)))

@@ -4,11 +4,11 @@ use lib.ListN.{take}
 use Rattle.paper.specs.Rows.{tokenFor}
 use Rattle.tables.specs.Endings.{endingOf}
 use Rattle.tables.proofs.Finding.{found-live, found-dead}
-use Rattle.tables.proofs.proxies.stands_on_ended.Statement.{statement}
-use Rattle.tables.proofs.proxies.stands_on_ended.Tie as tie
+use Rattle.tables.proofs.proxies.rests_on_ended.Statement.{statement}
+use Rattle.tables.proofs.proxies.rests_on_ended.Tie as tie
 
-pub stands-on-ended-spec : {M : Type 1} → statement M
-stands-on-ended-spec =
+pub rests-on-ended-spec : {M : Type 1} → statement M
+rests-on-ended-spec =
     tie.close
     (tie.spec
     (λ c κs. search needs)

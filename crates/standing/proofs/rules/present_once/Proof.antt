@@ -1,16 +1,16 @@
 use Rattle.lists.proofs.Places.{pairs-at, and-no, and-yes}
 use Rattle.standing.specs.Twice.{sameAt}
-use Rattle.paper.specs.Standing.{sameToken, sameProxy, proxiesStand}
+use Rattle.paper.specs.Standing.{sameToken, sameProxy, presentOnce}
 use Rattle.paper.specs.Tables.{noToken, noProxy, tokensOf, proxiesOf}
 use mathlib.Core.Bool.{not}
 use mathlib.Core.Path.{ap, _∙_}
 use borrow.Author.Needs.{needs}
-use Rattle.standing.proofs.rules.proxies_stand.Statement.{statement}
-use Rattle.standing.proofs.rules.proxies_stand.Tie as tie
+use Rattle.standing.proofs.rules.present_once.Statement.{statement}
+use Rattle.standing.proofs.rules.present_once.Tie as tie
 
-pub proxies-stand-spec : {M : Type 1} → statement M
-unfolding proxiesStand sameAt
-proxies-stand-spec =
+pub present-once-spec : {M : Type 1} → statement M
+unfolding presentOnce sameAt
+present-once-spec =
     tie.close
     (tie.spec
     (λ c κs. search needs)

@@ -1,10 +1,10 @@
 use mathlib.Core.Path.{_∙_}
 use borrow.Author.Needs.{needs}
-use Rattle.standing.proofs.keeps.lun_stands.Statement.{statement}
-use Rattle.standing.proofs.keeps.lun_stands.Tie as tie
+use Rattle.standing.proofs.keeps.lun_formed.Statement.{statement}
+use Rattle.standing.proofs.keeps.lun_formed.Tie as tie
 
-pub lun-stands-spec : {M : Type 1} → statement M
-lun-stands-spec =
+pub lun-formed-spec : {M : Type 1} → statement M
+lun-formed-spec =
     tie.close
     (tie.spec
     (λ c κs. search needs)

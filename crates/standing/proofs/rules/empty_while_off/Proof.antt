@@ -1,19 +1,19 @@
 use Rattle.lists.proofs.Places.{and-no, and-yes}
 use Rattle.paper.specs.declared.state.Coordinator.{Coordinator}
-use Rattle.paper.specs.Standing.{offStands}
+use Rattle.paper.specs.Standing.{emptyWhileOff}
 use lib.Dec.{eqb}
 use borrow.Author.Tests.{eq-eqb, ne-eqb}
 use mathlib.Core.Bool.{Bool, _&&_, _||_}
 use mathlib.Core.Path.{refl, ap, sym, _∙_}
-use Rattle.standing.proofs.rules.off_stands.Statement.{statement}
-use Rattle.standing.proofs.rules.off_stands.Tie as tie
+use Rattle.standing.proofs.rules.empty_while_off.Statement.{statement}
+use Rattle.standing.proofs.rules.empty_while_off.Tie as tie
 
 abbrev empty : Coordinator → Bool
 empty c = eqb (c .acl .count) 0 && (eqb (c .tokens .count) 0 && eqb (c .key) 0)
 
-pub off-stands-spec : {M : Type 1} → statement M
-unfolding offStands
-off-stands-spec =
+pub empty-while-off-spec : {M : Type 1} → statement M
+unfolding emptyWhileOff
+empty-while-off-spec =
     tie.close
     (tie.spec
     (λ c. ap (λ b. b || empty (c .before .args .c)) (sym (c .if1 .taken)))

@@ -1,16 +1,16 @@
 use Rattle.standing.proofs.Initiators.{enrolments-refer}
 use Rattle.lists.proofs.Places.{and-no, and-yes}
-use Rattle.paper.specs.Standing.{referencesStand}
+use Rattle.paper.specs.Standing.{referencesThere}
 use lib.ListN.{length}
 use borrow.Author.Tests.{not-true, not-false}
 use mathlib.Core.Path.{_≡_, _∙_}
 use borrow.Author.Needs.{needs}
-use Rattle.standing.proofs.rules.references_stand.Statement.{statement}
-use Rattle.standing.proofs.rules.references_stand.Tie as tie
+use Rattle.standing.proofs.rules.references_there.Statement.{statement}
+use Rattle.standing.proofs.rules.references_there.Tie as tie
 
-pub references-stand-spec : {M : Type 1} → statement M
-unfolding referencesStand
-references-stand-spec =
+pub references-there-spec : {M : Type 1} → statement M
+unfolding referencesThere
+references-there-spec =
     tie.close
     (tie.spec
     (λ c κs. search needs)

@@ -1,13 +1,13 @@
 use Rattle.lists.proofs.Places.{and-no, and-yes}
-use Rattle.paper.specs.Standing.{formsStand}
+use Rattle.paper.specs.Standing.{wellFormed}
 use borrow.Author.Tests.{not-true, not-false}
 use borrow.Author.Needs.{needs}
-use Rattle.standing.proofs.rules.forms_stand.Statement.{statement}
-use Rattle.standing.proofs.rules.forms_stand.Tie as tie
+use Rattle.standing.proofs.rules.well_formed.Statement.{statement}
+use Rattle.standing.proofs.rules.well_formed.Tie as tie
 
-pub forms-stand-spec : {M : Type 1} → statement M
-unfolding formsStand
-forms-stand-spec =
+pub well-formed-spec : {M : Type 1} → statement M
+unfolding wellFormed
+well-formed-spec =
     tie.close
     (tie.spec
     (λ c κs. search needs)

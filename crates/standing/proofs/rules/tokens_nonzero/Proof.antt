@@ -1,0 +1,12 @@
+use Rattle.paper.specs.Standing.{tokensNonzero}
+use borrow.Author.Needs.{needs}
+use Rattle.standing.proofs.rules.tokens_nonzero.Statement.{statement}
+use Rattle.standing.proofs.rules.tokens_nonzero.Tie as tie
+
+pub tokens-nonzero-spec : {M : Type 1} → statement M
+unfolding tokensNonzero
+tokens-nonzero-spec =
+    tie.close
+    (tie.spec
+    (λ c κs. search needs)
+    (λ c. c .tokens-keep .ensures))
