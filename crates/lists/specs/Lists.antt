@@ -70,3 +70,9 @@ below n = count 0 n
 unfoldable pub Different : {A : Type 0} → List A → Type 0
 Different [] = Unit {0}
 Different (x ∷ l) = (x ∈ l → ⊥) × Different l
+
+-- the element at a place, if there is one
+unfoldable pub nth : {A : Type 0} → List A → ℕ → Option A
+nth [] i = none
+nth (x ∷ l) zero = some x
+nth (x ∷ l) (suc i) = nth l i

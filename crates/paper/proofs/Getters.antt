@@ -8,8 +8,10 @@ use Rattle.lists.proofs.Tables.{take-pad, length-pad}
 use Rattle.lists.proofs.Parts.{length-parts, parts-gather}
 use Rattle.paper.specs.Sizes.{maxAces, maxTokens, maxProxies, maxUnits, maxLuacds, idSize, enrolmentSize}
 use Rattle.paper.specs.Identifiers.{kept}
-use Rattle.paper.specs.Setup.{fresh}
-use Rattle.paper.specs.Tables.{Content, these, everything, Enrolment, notEnrolled, enrolled, pending, noAce, noToken, noProxy, noLuacd, aceOf, contentOf, enrolmentIn, enrolmentBytes, acesOf, tokensOf, proxiesOf, unitsOf, transportsOf, enrolmentsOf, withAces, withTokens, withProxies, withEnrolments}
+use Rattle.paper.specs.Contents.{Content, these, everything, Enrolment, notEnrolled, enrolled, pending}
+use Rattle.paper.specs.Tables.{noAce, noToken, noProxy, noLuacd, aceOf, contentOf, enrolmentIn, enrolmentBytes, acesOf, tokensOf, proxiesOf, unitsOf, transportsOf, enrolmentsOf, withAces, withTokens, withProxies, withEnrolments}
+use Rattle.paper.specs.Setup.{Setup}
+use Rattle.paper.specs.Fresh.{fresh}
 use Rattle.paper.specs.declared.state.IdType.{IdType}
 use Rattle.paper.specs.declared.state.IdType.the-variants.{AccessId, TransportId}
 use Rattle.paper.specs.declared.state.Ace.{Ace}
@@ -34,7 +36,7 @@ content-of k id everything = refl
 -- ---- identifiers and enrolments, kept in a fixed number of bytes
 pub length-kept : (k : IdType) (id : List ℕ) → length (kept k id) ≡ idSize
 length-kept AccessId id = length-pad 0 idSize (take 16 id) (simp length-take (omega arith))
-length-kept TransportId id = length-pad 0 idSize (take 24 id) (simp length-take (omega arith))
+length-kept TransportId id = length-pad 0 idSize (take idSize id) (simp length-take (omega arith))
 
 pub length-enrolment : (e : Enrolment) → length (enrolmentBytes e) ≡ enrolmentSize
 length-enrolment notEnrolled = refl
@@ -68,11 +70,10 @@ pub length-transports : (c : Coordinator) → length (transportsOf c) ≡ c .ini
 length-transports c = length-parts idSize (c .initiators .count) (c .initiators .ids)
 
 -- ---- a fresh coordinator
-module _ (ids : List (List ℕ)) (heads : List ℕ) where
-  pub fresh-units : unitsOf (fresh ids heads) ≡ heads
-  unfolding fresh
-  fresh-units = take-pad 0 maxUnits heads
+pub fresh-units : (w : Setup) → unitsOf (fresh w) ≡ w .luns
+unfolding fresh
+fresh-units w = take-pad 0 maxUnits (w .luns)
 
-  pub fresh-transports : transportsOf (fresh ids heads) ≡ map (kept TransportId) ids
-  unfolding fresh
-  fresh-transports = parts-gather (kept TransportId) idSize ids _ (λ x h. length-kept TransportId x)
+pub fresh-transports : (w : Setup) → transportsOf (fresh w) ≡ map (kept TransportId) (w .transports)
+unfolding fresh
+fresh-transports w = parts-gather (kept TransportId) idSize (w .transports) _ (λ x h. length-kept TransportId x)

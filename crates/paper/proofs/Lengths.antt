@@ -17,8 +17,9 @@ use Rattle.lists.proofs.Sums.{gather-over, gather-most, gather-sort, shared-out
 use Rattle.lists.proofs.Order.{length-sort}
 use Rattle.paper.specs.Sizes.{idSize}
 use Rattle.paper.specs.Identifiers.{kept}
-use Rattle.paper.specs.Tables.{Content, these, everything, Enrolment, notEnrolled, enrolled, pending, contentBy, contentOf, unitsOf, acesOf, tokensOf, proxiesOf, enrolmentOf, transportOf}
-use Rattle.paper.specs.Rows.{aceFor, contentIn, contentFor, isFor, numbered, held, transportRows, enrolmentRows, tokenFor, proxyRow, rowOfProxy, ownedBy, proxyRows, openRows, rowsOf}
+use Rattle.paper.specs.Contents.{Content, these, everything, Enrolment, notEnrolled, enrolled, pending, numbered, held}
+use Rattle.paper.specs.Tables.{contentBy, contentOf, unitsOf, acesOf, tokensOf, proxiesOf, enrolmentOf, transportOf}
+use Rattle.paper.specs.Rows.{aceFor, contentIn, contentFor, isFor, transportRows, enrolmentRows, tokenFor, proxyRow, rowOfProxy, ownedBy, proxyRows, openRows, rowsOf}
 use Rattle.paper.specs.Standing.{listedIn, luacdsOf, fewLuacds}
 use Rattle.paper.specs.Reports.{luacdBytes, identifierBytes, grantedBytes, aceBytes, aceBefore, luacdBefore, tokenBefore, tokenBytes, proxyPage, reportPages, reportBytes, reachRows, rowBytes, reachBytes}
 use Rattle.paper.proofs.Getters.{length-kept}
@@ -43,12 +44,12 @@ pub length-token : (luns : List ℕ) (t : Token) → length (tokenBytes luns t) 
 unfolding tokenBytes
 length-token luns t = simp (length-append, bytes-length)
 
-pub length-identifier : (a : Ace) → length (identifierBytes a) ≡ 28
+pub length-identifier : (n : ℕ) (a : Ace) → length (identifierBytes n a) ≡ 28
 unfolding identifierBytes
-length-identifier a =
-    omega (arith, length-append (beBytes 2 idSize) (kept (a .kind) (a .id)), bytes-length 2 idSize, length-kept (a .kind) (a .id))
+length-identifier n a =
+    omega (arith, length-append (beBytes 2 n) (kept (a .kind) (a .id)), bytes-length 2 n, length-kept (a .kind) (a .id))
 
-length-granted : (luns : List ℕ) (a : Ace) (content : Content) → length (grantedBytes luns a content) ≡ 32 + 20 * length (listedIn content)
+length-granted : (luns : List ℕ) (a : Ace) (content : Content) → length (grantedBytes idSize luns a content) ≡ 32 + 20 * length (listedIn content)
 length-granted luns a (these ls) =
     let n = length-gather (luacdBytes luns) 20 (sort luacdBefore ls) (λ x h. length-luacd luns x) in
     simp (length-append, bytes-length, length-identifier) (omega (arith, n, length-sort luacdBefore ls))

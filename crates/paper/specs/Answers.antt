@@ -1,14 +1,19 @@
--- "Statuses and numbers": what each case of the answers means in the paper.
+-- "Statuses and numbers": what each case of the answers means in the paper. "Where an answer is an enum, a definition sets out this paper's number and values for each of its cases."
 use Prim.Native.Nat.{ℕ}
 use mathlib.Core.List.{List, [], _∷_}
-use mathlib.Core.Option.{Option, some, none}
 use lib.ListN.{replicate}
 use Rattle.paper.specs.declared.answers.Refusal.{Refusal}
 use Rattle.paper.specs.declared.answers.Refusal.the-variants.{BadSetup, BadState, NoInitiator, BadCdb, BadParameters, ShortBuffer}
 use Rattle.paper.specs.declared.answers.Condition.{Condition}
 use Rattle.paper.specs.declared.answers.Condition.the-variants.{OtherOperation, InvalidField, WrongLength, WrongKey, BadList, PendingEnrolled, NoAce, EnrolledElsewhere, BadLun, DeadToken, Clash, NoRoom, OpensNothing}
+use Rattle.paper.specs.declared.answers.Code.{Code}
 use Rattle.paper.specs.declared.answers.Answer.{Answer}
 use Rattle.paper.specs.declared.answers.Answer.the-variants.{Good, Check, Refused}
+use Rattle.paper.specs.declared.answers.Opened.{Opened}
+use Rattle.paper.specs.declared.answers.Opened.the-variants.{Opens, Closed, Barred}
+use Rattle.paper.specs.declared.answers.Status.{Status}
+use Rattle.paper.specs.declared.answers.Status.the-variants.{Byte, NoStatus}
+use Rattle.paper.specs.declared.answers.Values.{Values}
 
 -- "House refusals, tested in this order. They return the number"
 abbrev pub numberOf : Refusal → ℕ
@@ -19,17 +24,7 @@ numberOf BadCdb = 4
 numberOf BadParameters = 5
 numberOf ShortBuffer = 6
 
--- "GOOD (00h, sense all zero) or CHECK CONDITION (02h)"; a refusal has no status
-abbrev pub statusOf : Answer → Option ℕ
-statusOf Good = some 0
-statusOf (Check k) = some 2
-statusOf (Refused n) = none
-
 -- the table of codes: the code and its qualifier
-pub record Code : Type 0 where
-  pub code : ℕ
-  pub qualifier : ℕ
-
 abbrev pub coded : ℕ → ℕ → Code
 coded code qualifier = record { code = code; qualifier = qualifier }
 
@@ -56,8 +51,30 @@ senseBytes k =
 abbrev pub senseOf : Condition → List ℕ
 senseOf k = senseBytes (codeOf k)
 
--- the sense that goes with an answer: of GOOD "sense all zero", and of a refusal too
+-- ---- an answer: its status, the number of its refusal and its sense
+-- "a command answers GOOD (00h, sense all zero) or CHECK CONDITION (02h)"; a refusal has a number and no status
+abbrev pub statusOf : Answer → Status
+statusOf Good = Byte 0x00
+statusOf (Check k) = Byte 0x02
+statusOf (Refused n) = NoStatus
+
+-- refusals are numbered from 1; what is not refused has the number 0
+abbrev pub numberFor : Answer → ℕ
+numberFor Good = 0
+numberFor (Check k) = 0
+numberFor (Refused n) = numberOf n
+
+-- of GOOD "sense all zero", and of a refusal too
 abbrev pub senseFor : Answer → List ℕ
 senseFor Good = replicate 18 0
 senseFor (Check k) = senseOf k
 senseFor (Refused n) = replicate 18 0
+
+abbrev pub valuesOf : Answer → Values
+valuesOf a = record { status = statusOf a; number = numberFor a; sense = senseFor a }
+
+-- the route question is answered by a unit, a CHECK CONDITION or a refusal, and has the values of that answer
+abbrev pub answerOf : Opened → Answer
+answerOf (Opens u) = Good
+answerOf (Closed k) = Check k
+answerOf (Barred n) = Refused n

@@ -21,7 +21,7 @@ sameType k l = eqb (typeByte k) (typeByte l)
 -- of a TransportID "all 24 are compared"; of an AccessID "the first 16 are compared"
 abbrev pub comparedBytes : IdType → ℕ
 comparedBytes AccessId = 16
-comparedBytes TransportId = 24
+comparedBytes TransportId = idSize
 
 -- one type and identifier
 unfoldable pub sameId : IdType → List ℕ → IdType → List ℕ → Bool

@@ -5,6 +5,7 @@ use mathlib.Core.Bool.{cond}
 use lib.ListN.{length, getD}
 use lib.Dec.{eqb, ltb}
 use Rattle.lists.specs.Bytes.{be}
+use Rattle.paper.specs.Sizes.{idSize}
 use Rattle.paper.specs.declared.answers.Condition.{Condition}
 use Rattle.paper.specs.declared.answers.Condition.the-variants.{OtherOperation, InvalidField, WrongLength}
 
@@ -60,7 +61,7 @@ unfoldable pub readOut : ℕ → List ℕ → Reading
 readOut action list =
     cond (eqb action 0x00) (readManage list)
     (cond (eqb action 0x01) (exactly 12 list (disable (be 8 list 4)))
-    (cond (eqb action 0x02) (exactly 24 list (enroll list))
+    (cond (eqb action 0x02) (exactly idSize list (enroll list))
     (cond (eqb action 0x03) (readCancel list)
     (cond (eqb action 0x07) (exactly 8 list (revoke (be 8 list 0)))
     (cond (eqb action 0x08) (exactly 8 list (revokeAll (be 8 list 0)))

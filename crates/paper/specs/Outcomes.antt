@@ -2,17 +2,20 @@
 use Prim.Native.Nat.{ℕ}
 use mathlib.Core.List.{List, [], _∷_}
 use mathlib.Core.Option.{Option, some, none}
-use mathlib.Core.Bool.{Bool, cond, not}
-use lib.ListN.{length, take, replicate}
+use mathlib.Core.Bool.{cond, not}
+use lib.ListN.{length, take}
 use lib.Dec.{eqb, leb, ltb}
 use Rattle.lists.specs.Bytes.{beBytes, deliver}
-use Rattle.paper.specs.Answers.{senseFor, senseOf}
+use Rattle.paper.specs.Answers.{valuesOf, answerOf}
+use Rattle.paper.specs.Grounds.{opensBy}
 use Rattle.paper.specs.Tables.{unitsOf}
-use Rattle.paper.specs.Rows.{rowsOf, rowWith, opensBy, pendingHas}
+use Rattle.paper.specs.Rows.{rowsOf, rowWith, pendingHas}
 use Rattle.paper.specs.Standing.{standing}
 use Rattle.paper.specs.Orders.{Order, reportAcl, requestToken, manageAcl, disable, enroll, cancel, revoke, revokeAll, assign, release, noAction, Reading, wrong, order, readingOf, lengthField, operation, opOut}
-use Rattle.paper.specs.Effects.{Effect, lost, appliedAll}
-use Rattle.paper.specs.Tests.{Verdict, fails, passes, tests, effects}
+use Rattle.paper.specs.Effects.{Effect}
+use Rattle.paper.specs.InForce.{inForce, effects, linkEffects}
+use Rattle.paper.specs.Applied.{appliedAll}
+use Rattle.paper.specs.Commands.{Verdict, fails, passes, tests}
 use Rattle.paper.specs.Reports.{reportBytes, reachBytes}
 use Rattle.paper.specs.declared.state.Row.{Row}
 use Rattle.paper.specs.declared.state.Coordinator.{Coordinator}
@@ -34,10 +37,10 @@ pub data Decision : Type 0 where
   good : List Effect → List ℕ → Decision
 
 -- ---- a command
--- "Delivered bytes are the first allocation-length bytes; inner lengths do not shrink." A token is its eight bytes; while disabled "IN 04h is GOOD with 0 bytes"
+-- "Delivered bytes are the first allocation-length bytes; inner lengths do not shrink." A token is its eight bytes
 unfoldable pub replyTo : Coordinator → ℕ → Order → List ℕ
 replyTo c random (reportAcl key room) = take room (reportBytes c)
-replyTo c random (requestToken l) = cond (c .enabled) (beBytes 8 random) []
+replyTo c random (requestToken l) = beBytes 8 random
 replyTo c random (manageAcl list) = []
 replyTo c random (disable key) = []
 replyTo c random (enroll id) = []
@@ -52,12 +55,14 @@ abbrev pub judged : Verdict → Decision → Decision
 judged (fails k) d = check k
 judged passes d = d
 
+-- an order in force
 unfoldable pub decideOrder : Coordinator → ℕ → ℕ → Order → Decision
-decideOrder c i random o = judged (tests c i random o) (good (effects (unitsOf c) (c .enabled) i random o) (replyTo c random o))
+decideOrder c i random o =
+    judged (tests c i random o) (good (effects (unitsOf c) (c .enabled) i random o) (replyTo c random o))
 
 unfoldable pub decideReading : Coordinator → ℕ → ℕ → Reading → Decision
 decideReading c i random (wrong k) = check k
-decideReading c i random (order o) = decideOrder c i random o
+decideReading c i random (order o) = decideOrder c i random (inForce (c .enabled) o)
 
 -- "parameter bytes given differ in number from CDB bytes 10-13 (OUT), or from 0 (any other operation code)"
 abbrev pub owed : List ℕ → ℕ
@@ -78,10 +83,7 @@ decideCommand c i cdb list random room =
     (cond (not (eqb (length list) (owed cdb))) (refuse BadParameters)
     (inRoom room (decideReading c i random (readingOf cdb list))))))
 
--- ---- "A link event told by the host turns that initiator from enrolled to pending (H)."
-abbrev pub linkEffects : Bool → ℕ → List Effect
-linkEffects on i = cond on (lost i ∷ []) []
-
+-- ---- a link event
 unfoldable pub decideLink : Coordinator → ℕ → Decision
 decideLink c i =
     cond (not (standing c)) (refuse BadState)
@@ -94,7 +96,7 @@ decideReach c room = cond (not (standing c)) (refuse BadState) (inRoom room (goo
 
 -- ---- the outcome of a decision. "They return the number, change no state and write no byte." "A CHECK CONDITION changes nothing." "The rest of the lent buffer keeps its bytes."
 abbrev pub handedBack : Coordinator → Answer → ℕ → Outcome
-handedBack c a n = record { state = c; answer = a; sense = senseFor a; delivered = n }
+handedBack c a n = record { state = c; answer = a; values = valuesOf a; delivered = n }
 
 abbrev pub outcomeOf : Coordinator → Decision → Outcome
 outcomeOf c (refuse n) = handedBack c (Refused n) 0
@@ -120,11 +122,6 @@ routed c i l =
     (cond (leb (c .initiators .count) i) (Barred NoInitiator)
     (opens l (rowsOf c i)))
 
--- an opening with its sense
-abbrev pub openedSense : Opened → List ℕ
-openedSense (Opens u) = replicate 18 0
-openedSense (Closed k) = senseOf k
-openedSense (Barred n) = replicate 18 0
-
+-- an opening with its values
 abbrev pub openingOf : Opened → Opening
-openingOf o = record { opened = o; sense = openedSense o }
+openingOf o = record { opened = o; values = valuesOf (answerOf o) }

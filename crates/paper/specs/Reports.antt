@@ -9,9 +9,12 @@ use Rattle.lists.specs.Order.{sort}
 use Rattle.lists.specs.Bytes.{beBytes}
 use Rattle.wire.specs.Lun.{lunOf}
 use Rattle.paper.specs.Sizes.{idSize}
+use Rattle.paper.specs.Layouts.{grantLength, descriptorSize}
 use Rattle.paper.specs.Identifiers.{typeByte, lessId, kept}
-use Rattle.paper.specs.Tables.{Content, these, everything, contentOf, unitsOf, acesOf, tokensOf}
-use Rattle.paper.specs.Rows.{letterOf, rowsOf}
+use Rattle.paper.specs.Grounds.{letterOf}
+use Rattle.paper.specs.Contents.{Content, these, everything}
+use Rattle.paper.specs.Tables.{contentOf, unitsOf, acesOf, tokensOf}
+use Rattle.paper.specs.Rows.{rowsOf}
 use Rattle.paper.specs.declared.state.Luacd.{Luacd}
 use Rattle.paper.specs.declared.state.Ace.{Ace}
 use Rattle.paper.specs.declared.state.Token.{Token}
@@ -41,18 +44,19 @@ luacdBytes luns p = replicate 4 0 ++ (beBytes 8 (lunOf (p .lun)) ++ defaultBytes
 abbrev pub headBytes : ℕ → ℕ → List ℕ
 headBytes code n = code ∷ (0 ∷ beBytes 2 n)
 
--- a reserved byte, the identifier's type, its length and the identifier
-unfoldable pub identifierBytes : Ace → List ℕ
-identifierBytes a = 0 ∷ (typeByte (a .kind) ∷ (beBytes 2 idSize ++ kept (a .kind) (a .id)))
+-- a reserved byte, the identifier's type, its length n and the identifier
+unfoldable pub identifierBytes : ℕ → Ace → List ℕ
+identifierBytes n a = 0 ∷ (typeByte (a .kind) ∷ (beBytes 2 n ++ kept (a .kind) (a .id)))
 
--- "A Granted page has 32 + 20k bytes; an ACE of everything is a Granted All page (01h) of 32."
-abbrev pub grantedBytes : List ℕ → Ace → Content → List ℕ
-grantedBytes luns a (these ls) =
-    headBytes 0x00 (28 + 20 * length ls) ++ (identifierBytes a ++ gather (luacdBytes luns) (sort luacdBefore ls))
-grantedBytes luns a everything = headBytes 0x01 28 ++ identifierBytes a
+-- "A Granted page has 32 + 20k bytes; an ACE of everything is a Granted All page (01h) of 32.", with identifiers of n bytes
+abbrev pub grantedBytes : ℕ → List ℕ → Ace → Content → List ℕ
+grantedBytes n luns a (these ls) =
+    headBytes 0x00 (grantLength n + descriptorSize * length ls)
+    ++ (identifierBytes n a ++ gather (luacdBytes luns) (sort luacdBefore ls))
+grantedBytes n luns a everything = headBytes 0x01 (grantLength n) ++ identifierBytes n a
 
 unfoldable pub aceBytes : List ℕ → Ace → List ℕ
-aceBytes luns a = grantedBytes luns a (contentOf a)
+aceBytes luns a = grantedBytes idSize luns a (contentOf a)
 
 -- a proxy token descriptor: four reserved bytes, token, default LUN
 unfoldable pub tokenBytes : List ℕ → Token → List ℕ
@@ -62,7 +66,7 @@ tokenBytes luns t = replicate 4 0 ++ (beBytes 8 (t .number) ++ defaultBytes luns
 unfoldable pub proxyPage : List ℕ → List Token → List ℕ
 proxyPage luns [] = []
 proxyPage luns (t ∷ ts) =
-    headBytes 0x02 (20 * length (t ∷ ts)) ++ gather (tokenBytes luns) (sort tokenBefore (t ∷ ts))
+    headBytes 0x02 (descriptorSize * length (t ∷ ts)) ++ gather (tokenBytes luns) (sort tokenBefore (t ∷ ts))
 
 unfoldable pub reportPages : Coordinator → List ℕ
 reportPages c =

@@ -1,13 +1,15 @@
 -- "Rows of an initiator", clashes, and what a LUN opens.
-use Prim.Native.Nat.{ℕ, suc}
+use Prim.Native.Nat.{ℕ}
 use mathlib.Core.List.{List, [], _∷_, _++_, map}
 use mathlib.Core.Option.{Option, some, none}
-use mathlib.Core.Bool.{Bool, true, false, cond, not, _&&_, _||_}
+use mathlib.Core.Bool.{Bool, cond, not, _&&_, _||_}
 use lib.Dec.{eqb}
 use Rattle.lists.specs.Lists.{find, keep, any, pairs, gather, below}
 use Rattle.wire.specs.Lun.{lunOf}
 use Rattle.paper.specs.Identifiers.{sameId}
-use Rattle.paper.specs.Tables.{Content, these, everything, Enrolment, notEnrolled, enrolled, pending, contentOf, unitsOf, transportOf, enrolmentOf, acesOf, tokensOf, proxiesOf}
+use Rattle.paper.specs.Grounds.{isTAW, isW}
+use Rattle.paper.specs.Contents.{Content, these, allUnits, held, Enrolment, notEnrolled, enrolled, pending}
+use Rattle.paper.specs.Tables.{contentOf, unitsOf, transportOf, enrolmentOf, acesOf, tokensOf, proxiesOf}
 use Rattle.paper.specs.declared.state.IdType.{IdType}
 use Rattle.paper.specs.declared.state.IdType.the-variants.{AccessId, TransportId}
 use Rattle.paper.specs.declared.state.Luacd.{Luacd}
@@ -18,14 +20,6 @@ use Rattle.paper.specs.declared.state.Coordinator.{Coordinator}
 use Rattle.paper.specs.declared.state.Ground.{Ground}
 use Rattle.paper.specs.declared.state.Ground.the-variants.{GroundA, GroundO, GroundT, GroundW, GroundX}
 use Rattle.paper.specs.declared.state.Row.{Row}
-
--- "ground in ASCII"
-abbrev pub letterOf : Ground → ℕ
-letterOf GroundA = 0x41
-letterOf GroundO = 0x4F
-letterOf GroundT = 0x54
-letterOf GroundW = 0x57
-letterOf GroundX = 0x58
 
 -- ---- what an identifier holds
 abbrev pub isFor : IdType → List ℕ → Ace → Bool
@@ -41,20 +35,6 @@ contentIn (some a) = contentOf a
 
 abbrev pub contentFor : List Ace → IdType → List ℕ → Content
 contentFor aces k id = contentIn (aceFor aces k id)
-
--- the units from number n on, each at its default LUN
-unfoldable pub numbered : ℕ → List ℕ → List Luacd
-numbered n [] = []
-numbered n (l ∷ ls) = record { lun = l; unit = n } ∷ numbered (suc n) ls
-
--- "all units, each at its default LUN"
-abbrev pub allUnits : List ℕ → List Luacd
-allUnits luns = numbered 0 luns
-
--- what a content holds, given the units' default LUNs
-abbrev pub held : List ℕ → Content → List Luacd
-held luns (these ls) = ls
-held luns everything = allUnits luns
 
 -- ---- rows
 abbrev pub rowAt : ℕ → Ground → Luacd → Row
@@ -106,14 +86,6 @@ rowsOf c i =
     (openRows c i)
 
 -- ---- clashes
--- "rows of T, A, W"
-abbrev pub isTAW : Ground → Bool
-isTAW GroundA = true
-isTAW GroundO = false
-isTAW GroundT = true
-isTAW GroundW = true
-isTAW GroundX = false
-
 -- "A clash: two rows with one LUN and two units, or two rows of T, A, W with one unit and two LUNs."
 unfoldable pub clashing : Row → Row → Bool
 clashing r q =
@@ -133,29 +105,6 @@ someClash c = any (clashFor c) (below (c .initiators .count))
 -- ---- what a LUN opens; a LUN that is asked for is its eight bytes as one number, and all of them are compared
 abbrev pub hasLun : ℕ → Row → Bool
 hasLun l r = eqb (lunOf (r .lun)) l
-
--- "the unit of a T, A, X or O row with that LUN"
-abbrev pub opensBy : Ground → Bool
-opensBy GroundA = true
-opensBy GroundO = true
-opensBy GroundT = true
-opensBy GroundW = false
-opensBy GroundX = true
-
--- "the LUN must open by a T or A row"
-abbrev pub isTA : Ground → Bool
-isTA GroundA = true
-isTA GroundO = false
-isTA GroundT = true
-isTA GroundW = false
-isTA GroundX = false
-
-abbrev pub isW : Ground → Bool
-isW GroundA = false
-isW GroundO = false
-isW GroundT = false
-isW GroundW = true
-isW GroundX = false
 
 -- the first row with that LUN on one of some grounds
 unfoldable pub rowWith : (Ground → Bool) → ℕ → List Row → Option Row

@@ -8,7 +8,8 @@ use Rattle.wire.specs.Lun.{lunOf, lunForm}
 use Rattle.paper.specs.Sizes.{maxInitiators, maxUnits, maxAces, maxLuacds, maxTokens, maxProxies}
 use Rattle.paper.specs.Identifiers.{sameId, validTransport}
 use Rattle.paper.specs.Setup.{setupRules}
-use Rattle.paper.specs.Tables.{Content, these, everything, Enrolment, notEnrolled, enrolled, pending, contentOf, unitsOf, transportsOf, enrolmentsOf, acesOf, tokensOf, proxiesOf}
+use Rattle.paper.specs.Contents.{Content, these, everything, holdsNothing, Enrolment, notEnrolled, enrolled, pending}
+use Rattle.paper.specs.Tables.{contentOf, unitsOf, transportsOf, enrolmentsOf, acesOf, tokensOf, proxiesOf}
 use Rattle.paper.specs.Rows.{aceFor, tokenFor, someClash}
 use Rattle.paper.specs.declared.state.IdType.{IdType}
 use Rattle.paper.specs.declared.state.IdType.the-variants.{AccessId, TransportId}
@@ -71,11 +72,6 @@ unfoldable pub luacdsOnce : Coordinator → Bool
 luacdsOnce c = all onceListed (acesOf c)
 
 -- "a list without LUACDs"
-abbrev pub holdsNothing : Content → Bool
-holdsNothing (these []) = true
-holdsNothing (these (p ∷ ps)) = false
-holdsNothing everything = false
-
 abbrev pub holdsSome : Ace → Bool
 holdsSome a = not (holdsNothing (contentOf a))
 

@@ -8,6 +8,7 @@ use Rattle.lists.specs.Lists.{parts, gather}
 use Rattle.lists.specs.Tables.{pad}
 use Rattle.paper.specs.Sizes.{maxUnits, maxAces, maxLuacds, maxTokens, maxProxies, idSize, enrolmentSize, idsSize, enrolmentsSize}
 use Rattle.paper.specs.Identifiers.{kept}
+use Rattle.paper.specs.Contents.{Content, these, everything, Enrolment, notEnrolled, enrolled, pending}
 use Rattle.paper.specs.declared.state.IdType.{IdType}
 use Rattle.paper.specs.declared.state.IdType.the-variants.{AccessId, TransportId}
 use Rattle.paper.specs.declared.state.Extent.{Extent}
@@ -22,16 +23,6 @@ use Rattle.paper.specs.declared.state.ProxyLuns.{ProxyLuns}
 use Rattle.paper.specs.declared.state.Initiators.{Initiators}
 use Rattle.paper.specs.declared.state.Units.{Units}
 use Rattle.paper.specs.declared.state.Coordinator.{Coordinator}
-
--- "So an ACE holds either a list or everything."
-pub data Content : Type 0 where
-  these : List Luacd → Content
-  everything : Content
-
--- "States: not-enrolled, enrolled, pending.", the latter two under an AccessID
-pub data Enrolment : Type 0 where
-  notEnrolled : Enrolment
-  enrolled pending : List ℕ → Enrolment
 
 -- ---- blanks
 abbrev pub noLuacd : Luacd

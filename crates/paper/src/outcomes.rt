@@ -1,16 +1,17 @@
 // What the public functions hand back.
 ghost use mathlib.Core.Path.{_≡_};
-ghost use Rattle.paper.specs.Outcomes.{handedBack, openedSense, openingOf};
+ghost use Rattle.paper.specs.Outcomes.{handedBack, openingOf};
 use crate::answers;
 use crate::answers::Answer;
 use crate::answers::Opened;
+use crate::answers::Values;
 use crate::state::Coordinator;
 
-// The next state, the answer with its sense, and how many bytes were delivered.
+// The next state, the answer with its values, and how many bytes were delivered.
 pub struct Outcome {
     pub state: Coordinator,
     pub answer: Answer,
-    pub sense: [u8; 18],
+    pub values: Values,
     pub delivered: usize,
 }
 
@@ -18,42 +19,33 @@ pub struct Outcome {
 pub struct Started {
     pub state: Coordinator,
     pub answer: Answer,
+    pub values: Values,
 }
 
-// The answer to the route question, with its sense.
+// The answer to the route question, with its values.
 pub struct Opening {
     pub opened: Opened,
-    pub sense: [u8; 18],
+    pub values: Values,
 }
 
-// An outcome with the sense that goes with its answer.
+// An outcome with the values of its answer.
 pub fn handed_back(c: Coordinator, answer: Answer, delivered: usize) -> Outcome
     ensures { λ r. ⌜ r ≡ handedBack c answer delivered ⌝ }
 {
     Outcome {
         state: c,
         answer: answer,
-        sense: answers::sense_for(answer),
+        values: answers::values_of(answer),
         delivered: delivered,
     }
 }
 
-fn opened_sense(opened: Opened) -> [u8; 18]
-    ensures { λ r. ⌜ r ≡ openedSense opened ⌝ }
-{
-    match opened {
-        Opened::Opens(_) => [0; 18],
-        Opened::Closed(k) => answers::sense_of(k),
-        Opened::Barred(_) => [0; 18],
-    }
-}
-
-// An opening with the sense that goes with it.
+// An opening with the values of its answer.
 pub fn opening_of(opened: Opened) -> Opening
     ensures { λ r. ⌜ r ≡ openingOf opened ⌝ }
 {
     Opening {
         opened: opened,
-        sense: opened_sense(opened),
+        values: answers::values_of(answers::answer_of(opened)),
     }
 }

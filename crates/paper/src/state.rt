@@ -3,7 +3,7 @@
 ghost use mathlib.Core.Path.{_≡_};
 ghost use mathlib.Core.List.{[]};
 ghost use Rattle.paper.specs.Tables.{noLuacd, noAce, noToken, noProxy, aclOf, tokenTable, proxyTable, initiatorTable, unitTable};
-ghost use Rattle.paper.specs.Setup.{fresh};
+ghost use Rattle.paper.specs.Fresh.{nothing, fresh};
 
 // The bytes of an identifier, and of an enrolment: its stage and the AccessID; and of the tables that hold one for each initiator.
 pub const ID_SIZE: usize = 24;
@@ -197,7 +197,7 @@ pub fn no_units() -> Units
 
 // A fresh coordinator is disabled and starts with every table empty.
 pub fn fresh_coordinator() -> Coordinator
-    ensures { λ r. ⌜ r ≡ fresh [] [] ⌝ }
+    ensures { λ r. ⌜ r ≡ fresh nothing ⌝ }
 {
     Coordinator {
         enabled: false,

@@ -3,7 +3,8 @@ use mathlib.Core.Path.{_≡_, refl}
 use mathlib.Core.Bool.{Bool, true, false, not, _&&_, _||_, and-false, and-true}
 use lib.Dec.{eqb}
 use borrow.Author.Tests.{eq-eqb, ne-eqb}
-use Rattle.paper.specs.Rows.{isTAW, clashing}
+use Rattle.paper.specs.Grounds.{isTAW}
+use Rattle.paper.specs.Rows.{clashing}
 use Rattle.paper.specs.declared.state.Row.{Row}
 
 module _ (r q : Row) where

@@ -6,7 +6,8 @@ use mathlib.Core.Option.{Option, some, none}
 use mathlib.Core.Bool.{Bool, cond, _&&_}
 use Rattle.lists.specs.Lists.{any, isSome}
 use Rattle.lists.proofs.Members.{find-any}
-use Rattle.paper.specs.Rows.{opensBy, hasLun, rowWith, pendingHas}
+use Rattle.paper.specs.Grounds.{opensBy}
+use Rattle.paper.specs.Rows.{hasLun, rowWith, pendingHas}
 use Rattle.paper.specs.Outcomes.{opensOr, opens}
 use Rattle.paper.specs.declared.answers.Condition.the-variants.{PendingEnrolled, OpensNothing}
 use Rattle.paper.specs.declared.answers.Opened.the-variants.{Opens, Closed}

@@ -1,6 +1,6 @@
 -- The grounds that a question on a LUN is about.
 use mathlib.Core.Bool.{Bool, true}
-use Rattle.paper.specs.Rows.{opensBy, isTA, isW}
+use Rattle.paper.specs.Grounds.{opensBy, isTA, isW}
 use Rattle.paper.specs.declared.state.Ground.{Ground}
 use Rattle.rows.specs.declared.opening.Grounds.{Grounds}
 use Rattle.rows.specs.declared.opening.Grounds.the-variants.{Opening, TransportOrAccess, PendingOnly, AnyGround}

@@ -2,7 +2,8 @@
 ghost use mathlib.Core.Path.{_≡_};
 ghost use Prim.Native.Nat.{_≤_};
 ghost use lib.ListN.{take};
-ghost use Rattle.paper.specs.Rows.{isTAW, clashing, clashIn, clashFor, someClash};
+ghost use Rattle.paper.specs.Grounds.{isTAW};
+ghost use Rattle.paper.specs.Rows.{clashing, clashIn, clashFor, someClash};
 ghost use Rattle.rows.specs.Initiator.{InSetup};
 use crate::building;
 use crate::table::Rows;

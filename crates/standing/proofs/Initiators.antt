@@ -17,8 +17,8 @@ use Rattle.lists.proofs.Members.{all-map, all-same, in-all, all-append, pairs-m
 use Rattle.lists.proofs.Parts.{length-parts, from-count, count-join}
 use Rattle.wire.specs.Lun.{lunOf, lunForm}
 use Rattle.paper.specs.Identifiers.{validTransport}
-use Rattle.paper.specs.Tables.{enrolmentIn, unitsOf, transportsOf, enrolmentsOf}
 use Rattle.paper.specs.Setup.{setupRules}
+use Rattle.paper.specs.Tables.{enrolmentIn, unitsOf, transportsOf, enrolmentsOf}
 use Rattle.paper.specs.Standing.{lunFormed, enrolmentRefers, setupKept}
 use Rattle.paper.specs.declared.state.Coordinator.{Coordinator}
 use Rattle.standing.specs.declared.keeps.Rule.the-variants.{EachEnrolment, EachTransport, EachDefault}

@@ -6,8 +6,9 @@ use mathlib.Core.Bool.{not}
 use native.Mathlib.Omega.{arith}
 use lib.ListN.{length, getD, take}
 use lib.Dec.{eqb, eqb·suc-zero}
+use Rattle.paper.specs.Contents.{holdsNothing}
 use Rattle.paper.specs.Tables.{contentBy}
-use Rattle.paper.specs.Standing.{listedIn, holdsNothing}
+use Rattle.paper.specs.Standing.{listedIn}
 use Rattle.paper.specs.declared.state.Extent.{Extent}
 use Rattle.paper.specs.declared.state.Extent.the-variants.{Listed, Everything}
 use Rattle.paper.specs.declared.state.Luacd.{Luacd}

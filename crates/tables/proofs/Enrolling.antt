@@ -17,7 +17,8 @@ use Rattle.lists.proofs.Parts.{getD-parts, length-parts, length-gather}
 use Rattle.lists.proofs.Tables.{Grown, grown-none, grown-end}
 use Rattle.paper.proofs.Getters.{length-enrolment}
 use Rattle.paper.specs.Identifiers.{sameId}
-use Rattle.paper.specs.Tables.{Enrolment, notEnrolled, enrolled, pending, enrolmentAt, enrolmentIn, enrolmentBytes, enrolmentTable}
+use Rattle.paper.specs.Contents.{Enrolment, notEnrolled, enrolled, pending}
+use Rattle.paper.specs.Tables.{enrolmentAt, enrolmentIn, enrolmentBytes, enrolmentTable}
 use Rattle.paper.specs.Effects.{suspended, endedUnder}
 use Rattle.paper.specs.declared.state.IdType.the-variants.{AccessId}
 use Rattle.tables.specs.Changes.{changed, changedAt, storedFor, storedBytes, idAt}

@@ -2,7 +2,8 @@
 use mathlib.Core.Path.{_≡_, refl, ap}
 use mathlib.Core.Option.{Option, some, none}
 use mathlib.Core.Bool.{false}
-use Rattle.paper.specs.Effects.{Ending, ends, endsSome}
+use Rattle.paper.specs.Effects.{Ending, ends}
+use Rattle.paper.specs.Applied.{endsSome}
 use Rattle.paper.specs.declared.state.Token.{Token}
 use Rattle.tables.specs.Found.{foundToken}
 use Rattle.tables.specs.declared.lookups.TokenFound.the-variants.{Live, Dead}

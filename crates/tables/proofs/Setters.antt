@@ -3,7 +3,8 @@ use Prim.Native.Nat.{ℕ}
 use mathlib.Core.Path.{_≡_}
 use mathlib.Core.List.{List}
 use Rattle.lists.proofs.Tables.{Built}
-use Rattle.paper.specs.Tables.{these, noLuacd, noAce, noToken, noProxy, aceOf, aclOf, tokenTable, proxyTable}
+use Rattle.paper.specs.Contents.{these}
+use Rattle.paper.specs.Tables.{noLuacd, noAce, noToken, noProxy, aceOf, aclOf, tokenTable, proxyTable}
 use Rattle.paper.specs.declared.state.IdType.{IdType}
 use Rattle.paper.specs.declared.state.Extent.the-variants.{Listed}
 use Rattle.paper.specs.declared.state.Luacd.{Luacd}

@@ -7,7 +7,7 @@ use lib.Dec.{eqb}
 use Rattle.lists.specs.Tables.{pad}
 use Rattle.paper.specs.Sizes.{idSize}
 use Rattle.paper.specs.Identifiers.{kept}
-use Rattle.paper.specs.Tables.{Enrolment, notEnrolled, enrolled, pending}
+use Rattle.paper.specs.Contents.{Enrolment, notEnrolled, enrolled, pending}
 use Rattle.paper.specs.Effects.{suspended, endedUnder}
 use Rattle.paper.specs.declared.state.IdType.the-variants.{AccessId}
 use Rattle.tables.specs.declared.enrolments.Change.{Change}

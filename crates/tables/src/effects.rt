@@ -2,8 +2,9 @@
 ghost use mathlib.Core.Path.{_≡_};
 ghost use mathlib.Core.List.{[], _∷_, _++_};
 ghost use Prim.Native.Nat.{_<_, _≤_};
-ghost use Rattle.paper.specs.Effects.{applied, keyed, turnedOn, turnedOff, ended, assigned, released};
 ghost use Rattle.paper.specs.Tables.{tokensOf, enrolmentsOf, withTokens, withEnrolments};
+ghost use Rattle.paper.specs.Effects.{switched, turnedOn, turnedOff, keyed, tokening, ended, proxying, assigned, released};
+ghost use Rattle.paper.specs.Applied.{applied};
 ghost use Rattle.tables.specs.Changes.{changed};
 ghost use Rattle.tables.specs.Endings.{endingOf};
 use crate::enrolments;
@@ -19,7 +20,7 @@ use paper::state::Token;
 
 // Tokens end, and with them their proxy LUNs.
 pub fn ended(c: Coordinator, e: EndKind, page: &[u8]) -> Coordinator
-    ensures { λ r. ⌜ r ≡ applied c (ended (endingOf e (now (page .entry)))) ⌝ }
+    ensures { λ r. ⌜ r ≡ applied c (tokening (ended (endingOf e (now (page .entry))))) ⌝ }
 {
     let ts = c.tokens;
     let ps = c.proxies;
@@ -40,7 +41,7 @@ pub fn issued(c: Coordinator, t: Token) -> Coordinator
 // A proxy LUN is assigned: initiator, LUN and token.
 pub fn assigned(c: Coordinator, i: u8, l: u64, n: u64) -> Coordinator
     requires { ⌜ c .proxies .count < 32 ⌝ }
-    ensures { λ r. ⌜ r ≡ applied c (assigned i l n) ⌝ }
+    ensures { λ r. ⌜ r ≡ applied c (proxying (assigned i l n)) ⌝ }
 {
     let ps = c.proxies;
     let p = ProxyLun {
@@ -53,7 +54,7 @@ pub fn assigned(c: Coordinator, i: u8, l: u64, n: u64) -> Coordinator
 
 // An initiator's proxy LUN is released.
 pub fn released(c: Coordinator, i: u8, l: u64) -> Coordinator
-    ensures { λ r. ⌜ r ≡ applied c (released i l) ⌝ }
+    ensures { λ r. ⌜ r ≡ applied c (proxying (released i l)) ⌝ }
 {
     let ps = c.proxies;
     setters::with_proxies(c, proxies::proxy_released(ps, i, l))
@@ -70,7 +71,7 @@ pub fn enrolled_change(c: Coordinator, change: Change, id: &[u8]) -> Coordinator
 
 // Access controls go off: all tables are emptied, key and DLgeneration become 0.
 pub fn emptied(c: Coordinator) -> Coordinator
-    ensures { λ r. ⌜ r ≡ applied c turnedOff ⌝ }
+    ensures { λ r. ⌜ r ≡ applied c (switched turnedOff) ⌝ }
 {
     let t = c.initiators;
     let off = setters::with_acl(setters::with_switch(c, false, 0, 0), state::no_acl());
@@ -83,7 +84,7 @@ pub fn emptied(c: Coordinator) -> Coordinator
 
 // A key is taken and access controls go on.
 pub fn switched_on(c: Coordinator, key: u64) -> Coordinator
-    ensures { λ r. ⌜ r ≡ applied (applied c (keyed key)) turnedOn ⌝ }
+    ensures { λ r. ⌜ r ≡ applied (applied c (keyed key)) (switched turnedOn) ⌝ }
 {
     setters::with_switch(c, true, 1, key)
 }

@@ -1,3 +1,4 @@
+-- The values are those of the answer.
 use borrow.Author.Needs.{needs}
 use Rattle.paper.proofs.outcomes.handed_back.Statement.{statement}
 use Rattle.paper.proofs.outcomes.handed_back.Tie as tie
@@ -7,4 +8,4 @@ handed-back-spec =
     tie.close
     (tie.spec
     (λ c κs. search needs)
-    (λ c. rw (c .sense-for .ensures)))
+    (λ c. rw (c .values-of .ensures)))

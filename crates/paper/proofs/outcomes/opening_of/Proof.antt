@@ -1,3 +1,4 @@
+-- The values are those of the answer that the opening is.
 use borrow.Author.Needs.{needs}
 use Rattle.paper.proofs.outcomes.opening_of.Statement.{statement}
 use Rattle.paper.proofs.outcomes.opening_of.Tie as tie
@@ -7,4 +8,5 @@ opening-of-spec =
     tie.close
     (tie.spec
     (λ c κs. search needs)
-    (λ c. rw (c .opened-sense .ensures)))
+    (λ c κs. search needs)
+    (λ c. rw (c .values-of .ensures, c .before .answer-of .ensures)))

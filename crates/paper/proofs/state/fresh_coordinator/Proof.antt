@@ -1,4 +1,4 @@
-use Rattle.paper.specs.Setup.{fresh}
+use Rattle.paper.specs.Fresh.{fresh}
 use borrow.Author.Needs.{needs}
 use Rattle.paper.proofs.state.fresh_coordinator.Statement.{statement}
 use Rattle.paper.proofs.state.fresh_coordinator.Tie as tie

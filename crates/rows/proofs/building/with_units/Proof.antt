@@ -4,7 +4,8 @@ use native.Mathlib.Omega.{arith}
 use borrow.Author.Needs.{needs}
 use lib.ListN.{take, drop}
 use Rattle.lists.proofs.Walk.{Scan, scan-none, scan-more, scan-cons, scan-nil, length-mapped}
-use Rattle.paper.specs.Rows.{numbered, rowsAt}
+use Rattle.paper.specs.Contents.{numbered}
+use Rattle.paper.specs.Rows.{rowsAt}
 use Rattle.rows.proofs.Appending.{Appending, append-none, append-row, append-end}
 use Rattle.rows.proofs.building.with_units.Statement.{statement}
 use Rattle.rows.proofs.building.with_units.Tie as tie

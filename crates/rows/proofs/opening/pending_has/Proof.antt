@@ -1,6 +1,7 @@
 use borrow.Author.Needs.{needs}
 use mathlib.Core.Path.{_∙_}
-use Rattle.paper.specs.Rows.{isW, pendingHas}
+use Rattle.paper.specs.Grounds.{isW}
+use Rattle.paper.specs.Rows.{pendingHas}
 use Rattle.rows.proofs.Search.{found-any}
 use Rattle.rows.proofs.opening.pending_has.Statement.{statement}
 use Rattle.rows.proofs.opening.pending_has.Tie as tie

@@ -1,6 +1,6 @@
 use Rattle.standing.proofs.Luacds.{luacd-in}
-use Rattle.paper.specs.Standing.{luacdsOf}
 use Rattle.paper.specs.Tables.{noLuacd}
+use Rattle.paper.specs.Standing.{luacdsOf}
 use lib.ListN.{List·getD-eq-default}
 use native.Mathlib.Omega.{arith}
 use mathlib.Core.Path.{_∙_, sym}

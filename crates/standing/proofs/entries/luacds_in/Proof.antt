@@ -1,6 +1,6 @@
 use Rattle.lists.proofs.Places.{entries}
-use Rattle.paper.specs.Standing.{listedIn}
 use Rattle.paper.specs.Tables.{contentBy}
+use Rattle.paper.specs.Standing.{listedIn}
 use lib.ListN.{length, take}
 use native.Mathlib.Omega.{arith}
 use mathlib.Core.Path.{_∙_, sym, ap}

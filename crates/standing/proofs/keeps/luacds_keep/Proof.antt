@@ -1,8 +1,8 @@
 use borrow.Author.Tests.{not-true, not-false}
 use Rattle.lists.proofs.Places.{all-step, all-stop, all-end}
 use Rattle.standing.specs.Keeps.{luacdTest}
-use Rattle.paper.specs.Standing.{luacdsOf}
 use Rattle.paper.specs.Tables.{noLuacd}
+use Rattle.paper.specs.Standing.{luacdsOf}
 use Rattle.lists.proofs.Walk.{drop-one}
 use Rattle.lists.specs.Lists.{all}
 use lib.ListN.{length, drop, drop-of-length-le}

@@ -1,8 +1,8 @@
 use lib.ListN.{length, getD}
 use Rattle.lists.proofs.Places.{pairs-at}
 use Rattle.standing.specs.Twice.{sameAt}
-use Rattle.paper.specs.Standing.{sameLunOrUnit, luacdsOf}
 use Rattle.paper.specs.Tables.{noAce, noLuacd, acesOf}
+use Rattle.paper.specs.Standing.{sameLunOrUnit, luacdsOf}
 use mathlib.Core.Bool.{not}
 use mathlib.Core.Path.{ap, _∙_}
 use borrow.Author.Needs.{needs}

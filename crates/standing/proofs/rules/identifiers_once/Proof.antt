@@ -1,7 +1,7 @@
 use Rattle.lists.proofs.Places.{pairs-at}
 use Rattle.standing.specs.Twice.{sameAt}
-use Rattle.paper.specs.Standing.{sameAce, identifiersOnce}
 use Rattle.paper.specs.Tables.{noAce, acesOf}
+use Rattle.paper.specs.Standing.{sameAce, identifiersOnce}
 use mathlib.Core.Bool.{not}
 use mathlib.Core.Path.{ap, _∙_}
 use borrow.Author.Needs.{needs}

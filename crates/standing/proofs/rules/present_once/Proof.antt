@@ -1,7 +1,7 @@
 use Rattle.lists.proofs.Places.{pairs-at, and-no, and-yes}
 use Rattle.standing.specs.Twice.{sameAt}
-use Rattle.paper.specs.Standing.{sameToken, sameProxy, presentOnce}
 use Rattle.paper.specs.Tables.{noToken, noProxy, tokensOf, proxiesOf}
+use Rattle.paper.specs.Standing.{sameToken, sameProxy, presentOnce}
 use mathlib.Core.Bool.{not}
 use mathlib.Core.Path.{ap, _∙_}
 use borrow.Author.Needs.{needs}

@@ -1,6 +1,6 @@
 use Rattle.standing.specs.Twice.{at2}
-use Rattle.paper.specs.Standing.{sameLunOrUnit, luacdsOf}
 use Rattle.paper.specs.Tables.{noLuacd}
+use Rattle.paper.specs.Standing.{sameLunOrUnit, luacdsOf}
 use mathlib.Core.Path.{ap, _∙_}
 use Rattle.standing.specs.Twice.{sameAt}
 use borrow.Author.Needs.{needs}

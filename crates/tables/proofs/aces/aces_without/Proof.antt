@@ -6,7 +6,7 @@ use native.Mathlib.Omega.{arith}
 use borrow.Author.Needs.{needs}
 use Rattle.lists.proofs.Walk.{length-mapped}
 use Rattle.paper.specs.Tables.{noAce}
-use Rattle.paper.specs.Effects.{otherAce}
+use Rattle.paper.specs.Applied.{otherAce}
 use Rattle.lists.proofs.Rebuild.{Sifted, sift-none, sift-keeps, sift-drops, sift-end}
 use Rattle.tables.proofs.Setters.{acl-table}
 use Rattle.tables.proofs.aces.aces_without.Statement.{statement}

@@ -1,7 +1,7 @@
 use mathlib.Core.Path.{ap₂, _∙_}
 use borrow.Author.Needs.{needs}
-use Rattle.paper.specs.Effects.{applied}
 use Rattle.paper.specs.Tables.{withInitiators, withAcl, withTokenTable, withProxyTable}
+use Rattle.paper.specs.Applied.{applied}
 use Rattle.tables.proofs.effects.emptied.Statement.{statement}
 use Rattle.tables.proofs.effects.emptied.Tie as tie
 

@@ -1,7 +1,7 @@
 use mathlib.Core.Path.{ap, ap₂, _∙_}
 use borrow.Author.Needs.{needs}
-use Rattle.paper.specs.Effects.{applied}
 use Rattle.paper.specs.Tables.{withTokenTable, withProxyTable}
+use Rattle.paper.specs.Applied.{applied}
 use Rattle.tables.proofs.effects.ended.Statement.{statement}
 use Rattle.tables.proofs.effects.ended.Tie as tie
 

@@ -1,7 +1,7 @@
 use mathlib.Core.Path.{ap, _∙_}
 use borrow.Author.Needs.{needs}
-use Rattle.paper.specs.Effects.{applied}
 use Rattle.paper.specs.Tables.{withProxyTable}
+use Rattle.paper.specs.Applied.{applied}
 use Rattle.tables.proofs.effects.released.Statement.{statement}
 use Rattle.tables.proofs.effects.released.Tie as tie
 

@@ -1,5 +1,5 @@
 use borrow.Author.Needs.{needs}
-use Rattle.paper.specs.Effects.{applied}
+use Rattle.paper.specs.Applied.{applied}
 use Rattle.tables.proofs.effects.switched_on.Statement.{statement}
 use Rattle.tables.proofs.effects.switched_on.Tie as tie
 

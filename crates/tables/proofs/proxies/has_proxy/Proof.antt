@@ -5,8 +5,8 @@ use borrow.Author.Needs.{needs}
 use lib.ListN.{take, drop}
 use Rattle.lists.specs.Lists.{any}
 use Rattle.lists.proofs.Walk.{Scan, scan-none, scan-more, scan-cons, scan-nil, length-mapped}
-use Rattle.paper.specs.Effects.{isProxy}
 use Rattle.paper.specs.Tables.{noProxy}
+use Rattle.paper.specs.Applied.{isProxy}
 use Rattle.tables.proofs.proxies.has_proxy.Statement.{statement}
 use Rattle.tables.proofs.proxies.has_proxy.Tie as tie
 

@@ -5,7 +5,7 @@ use borrow.Author.Needs.{needs}
 use lib.ListN.{take}
 use Rattle.lists.proofs.Walk.{length-mapped}
 use Rattle.paper.specs.Tables.{noProxy}
-use Rattle.paper.specs.Effects.{keptBy}
+use Rattle.paper.specs.Applied.{keptBy}
 use Rattle.tables.specs.Endings.{endingOf}
 use Rattle.lists.proofs.Rebuild.{Sifted, sift-none, sift-keeps, sift-drops, sift-end}
 use Rattle.tables.proofs.Setters.{proxy-table}

@@ -4,7 +4,7 @@ use native.Mathlib.Omega.{arith}
 use borrow.Author.Needs.{needs}
 use Rattle.lists.proofs.Walk.{length-mapped}
 use Rattle.paper.specs.Tables.{noProxy}
-use Rattle.paper.specs.Effects.{otherProxy}
+use Rattle.paper.specs.Applied.{otherProxy}
 use Rattle.lists.proofs.Rebuild.{Sifted, sift-none, sift-keeps, sift-drops, sift-end}
 use Rattle.tables.proofs.Setters.{proxy-table}
 use Rattle.tables.proofs.proxies.proxy_released.Statement.{statement}
