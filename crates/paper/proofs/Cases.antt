@@ -1,15 +1,15 @@
 -- "The cases marked * go into one table, proved by a single statement over the definitions."
 -- Commands, lists and reports stand here as their bytes, so each case runs through every definition on its way.
-use Prim.Native.Nat.{ℕ, _+_, _*_}
+use Prim.Native.Nat.{ℕ}
 use mathlib.Core.Path.{_≡_, refl}
 use mathlib.Core.Bool.{true}
-use mathlib.Core.List.{List, [], _∷_, _++_, map}
-use lib.ListN.{length, replicate}
+use mathlib.Core.List.{List, [], _∷_, map}
+use lib.ListN.{replicate}
 use Rattle.lists.specs.Lists.{find, placeOf, keep, any, all, pairs, gather, parts, count}
 use Rattle.lists.specs.Order.{insert, sort}
 use Rattle.lists.specs.Bytes.{be, beBytes, sameBytes, lessBytes}
 use Rattle.lists.specs.Pages.{pageSize, pagesUpTo, pagesOf, wholePage}
-use Rattle.wire.specs.Lun.{lunOf, headOf}
+use Rattle.wire.specs.Lun.{headOf}
 use Rattle.paper.specs.Identifiers.{sameId, lessId, validTransport}
 use Rattle.paper.specs.Answers.{senseBytes, senseOf}
 use Rattle.paper.specs.Setup.{setupIn, setupRules, idsIn, lunsIn, accepted}
@@ -24,43 +24,10 @@ use Rattle.paper.specs.Applied.{putAce, applied, appliedAll}
 use Rattle.paper.specs.Commands.{malformed, tooMany, manageTests, keyTests, enrollTests, requestTests, assignTests, releaseTests, tests}
 use Rattle.paper.specs.Reports.{luacdBytes, identifierBytes, aceBytes, tokenBytes, proxyPage, reportPages, reportBytes, rowBefore, reachRows, rowBytes, reachBytes}
 use Rattle.paper.specs.Outcomes.{replyTo, decideOrder, decideReading, decideCommand, decideLink, outcomeOf}
-use Rattle.paper.specs.Runs.{command, link, Sent, runFrom, decideStatement}
+use Rattle.paper.specs.Runs.{Sent, runFrom, decideStatement}
+use Rattle.paper.proofs.Sending.{transport, access, shelf, small, luacd, grant, manage, out, linked}
 use Rattle.paper.specs.declared.state.Coordinator.{Coordinator}
 use Rattle.paper.specs.declared.answers.Condition.the-variants.{Clash}
-
--- ---- one initiator, TransportID all zero; units 0, 1 and 2 at the default LUNs 5, 6 and 7
-abbrev transport : List ℕ
-transport = replicate 24 0
-
-abbrev access : List ℕ
-access = replicate 24 9
-
-abbrev shelf : List ℕ
-shelf = gather (λ nn. beBytes 8 (lunOf nn)) (5 ∷ (6 ∷ (7 ∷ [])))
-
--- one unit at 5
-abbrev small : List ℕ
-small = beBytes 8 (lunOf 5)
-
--- ---- the bytes of pages, lists and commands
--- a LUACD for a LUN and a unit of the shelf
-abbrev luacd : ℕ → ℕ → List ℕ
-luacd nn u = replicate 4 0 ++ (beBytes 8 (lunOf nn) ++ beBytes 8 (lunOf (5 + u)))
-
-abbrev grant : ℕ → List ℕ → List (List ℕ) → List ℕ
-grant type id ds =
-    (0 ∷ (0 ∷ beBytes 2 (28 + 20 * length ds))) ++ ((0 ∷ (type ∷ beBytes 2 24)) ++ (id ++ gather (λ d. d) ds))
-
--- all keys are zero; the generation is 0 disabled, 1 enabled
-abbrev manage : ℕ → List (List ℕ) → List ℕ
-manage generation pages = replicate 24 0 ++ (beBytes 4 generation ++ gather (λ p. p) pages)
-
-abbrev out : ℕ → List ℕ → Sent
-out action list =
-    record {
-      statement = command 0 ((0x87 ∷ (action ∷ replicate 8 0)) ++ (beBytes 4 (length list) ++ (0 ∷ (0 ∷ [])))) list 0;
-      room = 0;
-    }
 
 -- ---- what is seen of a run: the sense of the last statement, the reach list, the report
 abbrev reached : Coordinator → List Sent → List ℕ
@@ -84,7 +51,7 @@ enrolling = out 0x02 access
 -- the AccessID's ACE has 2 to u1, the initiator is enrolled under it, and its link was lost
 abbrev pendingRun : List Sent
 pendingRun =
-    record { statement = link 0; room = 0 }
+    linked
     ∷ (enrolling ∷ (out 0x00 (manage 0 (grant 0 access (luacd 2 1 ∷ []) ∷ [])) ∷ []))
 
 abbrev on : List Sent

@@ -1,5 +1,9 @@
+pub mod Sending
 pub mod Cases
 pub mod Getters
 pub mod Lengths
 pub mod Stood
 pub mod Unchanged
+pub mod RouteOnly
+pub mod Wrong
+pub mod Worked
