@@ -10,7 +10,7 @@ use native.Mathlib.Numerals.{add-one}
 use native.Mathlib.Decide.{decLt}
 use native.Mathlib.Nat.{add-zero, add-suc, add-assoc, mul-assoc, pow-suc, pow-succ', div-one, div-div-eq-div-mul, div-add-mod', lt-trans, eq-or-lt-of-le, le-of-suc-le-suc}
 use lib.ListN.{length, take, drop, getD, length-append, length-take, length-drop, List·getD-eq-default, List·getD-append}
-use lib.Seq.{getD-take, getD-drop, getD-at, getD-append-add, ext-getD, take-suc}
+use lib.Seq.{getD-take, getD-drop, getD-at, getD-append-add, ext-getD, take-suc, drop-at}
 use lib.Dec.{ltb}
 use borrow.Author.Tests.{eqb-true, eq-eqb, ltb-true, ltb-false, lt-ltb, le-ltb}
 use mir.Val.{Fits}
@@ -233,3 +233,10 @@ less-trans n a b c e f = go (less-first a b n e) (less-first b c n f)
         by (no h) (no k) =
             let q : j ≡ i = omega arith in
             first-less a c n i hi (same-trans i a b c si (rw q at sj)) (lt-trans li (rw q at lj))
+
+-- a number whose bytes stand at a place is read back there
+pub be-at : (n x at : ℕ) (p q : List ℕ) → length p ≡ at → x < 256 ^ n → be n (p ++ (beBytes n x ++ q)) at ≡ x
+be-at n x at p q l h =
+    let e = rw (drop-at p (beBytes n x ++ q) at l, add-zero) at (be-drop n (p ++ (beBytes n x ++ q)) 0 at) in
+    let f = be-first n (beBytes n x) 0 q (omega (arith, bytes-length n x)) in
+    sym e ∙ (f ∙ be-bytes n x h)

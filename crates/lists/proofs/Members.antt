@@ -40,6 +40,15 @@ from-map f [] h = elim h [ ]
 from-map f (x ∷ l) (here e) = (x, here refl, e)
 from-map f (x ∷ l) (there h) = let r = from-map f l h in (r .0, there (r .1), r .2)
 
+-- two maps, one after the other, are a third where they are so for each element
+pub map-map : {A B C : Type 0} (f : A → B) (g : B → C) (h : A → C) (l : List A) → ((x : A) → x ∈ l → g (f x) ≡ h x) → map g (map f l) ≡ map h l
+map-map f g h [] e = refl
+map-map f g h (x ∷ l) e = rw (e x (here refl), map-map f g h l (λ y m. e y (there m)))
+
+pub map-same : {A : Type 0} (f : A → A) (l : List A) → ((x : A) → x ∈ l → f x ≡ x) → map f l ≡ l
+map-same f [] e = refl
+map-same f (x ∷ l) e = rw (e x (here refl), map-same f l (λ y m. e y (there m)))
+
 pub in-gather : {A B : Type 0} (f : A → List B) {x : A} {y : B} {l : List A} → x ∈ l → y ∈ f x → y ∈ gather f l
 unfolding gather
 in-gather f {y = y} (here {l = m} e) k = in-left (gather f m) (subst (λ w. y ∈ f w) e k)

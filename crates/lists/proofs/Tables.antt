@@ -1,13 +1,14 @@
 -- A counted table that is built element by element: a list, and blanks after it up to the size.
-use Prim.Native.Nat.{ℕ, suc, _+_, _-_, _≤_, _<_}
-use mathlib.Core.Path.{_≡_, refl, ap, _∙_}
+use Prim.Native.Nat.{ℕ, zero, suc, _+_, _-_, _≤_, _<_}
+use mathlib.Core.Path.{_≡_, refl, ap, sym, _∙_}
 use mathlib.Core.List.{List, [], _∷_, _++_, append-nil}
 use native.Mathlib.Omega.{arith}
 use native.Mathlib.Nat.{sub-zero, add-zero}
-use lib.ListN.{length, take, getD, set, replicate, length-append, length-replicate, length-set, List·getD-append, drop, drop-of-length-le}
-use lib.Seq.{set-append-left, set-append-seam, append-snoc, take-append-seam, sets, drop-cons}
+use lib.ListN.{length, take, getD, set, replicate, length-append, length-replicate, length-set, length-take, List·getD-append, List·getD-eq-default, drop, drop-of-length-le}
+use lib.Seq.{set-append-left, set-append-seam, append-snoc, take-append-seam, sets, drop-cons, getD-take, ext-getD}
 use Rattle.lists.specs.Tables.{pad}
 use native.Mathlib.Numerals.{add-one}
+use native.Mathlib.Decide.{decLt}
 
 module _ {A : Type 0} (b : A) (n : ℕ) (xs : List A) where
   -- what stands in a table is the list that it was made of
@@ -100,3 +101,32 @@ grown-run {kept = kept} [] g e = rw (add-zero, ← e) g
 grown-run {kept = kept} (y ∷ ys) g e =
     let f : kept + 1 + length ys ≡ kept + suc (length ys) = omega arith in
     rw (← f, ← add-one kept) (grown-run ys (grown-step g e) refl)
+
+-- ---- padded with the element that stands past the end: every place reads the same
+module _ {A : Type 0} (b : A) where
+  getD-blank : (k i : ℕ) → getD (replicate k b) i b ≡ b
+  getD-blank zero i = refl
+  getD-blank (suc k) zero = refl
+  getD-blank (suc k) (suc i) = getD-blank k i
+
+  getD-padded : (l : List A) (k i : ℕ) → getD (l ++ replicate k b) i b ≡ getD l i b
+  getD-padded [] k i = getD-blank k i
+  getD-padded (x ∷ l) k zero = refl
+  getD-padded (x ∷ l) k (suc i) = getD-padded l k i
+
+  pub getD-everywhere : (n : ℕ) (l : List A) (i : ℕ) → getD (pad b n l) i b ≡ getD l i b
+  getD-everywhere n l i = getD-padded l (n - length l) i
+
+  -- what was cut to m and padded stays so
+  pub pad-again : (n m : ℕ) (l : List A) → m ≤ n → pad b n (take m (pad b n (take m l))) ≡ pad b n (take m l)
+  pad-again n m l h =
+      let once : length (take m l) ≤ n = simp length-take (omega arith) in
+      let twice : length (take m (pad b n (take m l))) ≤ n = simp length-take (omega arith) in
+      ext-getD b _ _ (length-pad b n (take m (pad b n (take m l))) twice ∙ sym (length-pad b n (take m l) once)) (λ i j. at i (decLt i m))
+    where
+      past : (xs : List A) (i : ℕ) → (i < m → ⊥) → getD (take m xs) i b ≡ b
+      past xs i k = List·getD-eq-default (take m xs) b {n = i} (simp length-take (omega arith))
+
+      at : (i : ℕ) → Dec (i < m) → getD (pad b n (take m (pad b n (take m l)))) i b ≡ getD (pad b n (take m l)) i b
+      at i (yes k) = getD-everywhere n (take m (pad b n (take m l))) i ∙ getD-take m (pad b n (take m l)) i b k
+      at i (no k) = getD-everywhere n (take m (pad b n (take m l))) i ∙ (past (pad b n (take m l)) i k ∙ sym (getD-everywhere n (take m l) i ∙ past l i k))

@@ -1,10 +1,11 @@
 -- Getters after setters: what was put into a table is what is read from it.
 use Prim.Native.Nat.{ℕ, suc}
 use mathlib.Core.Path.{_≡_, refl, ap}
-use mathlib.Core.List.{List, [], _∷_, map}
+use mathlib.Core.List.{List, [], map}
 use native.Mathlib.Omega.{arith}
 use lib.ListN.{length, take, length-take, length-map}
 use Rattle.lists.proofs.Tables.{take-pad, length-pad}
+use Rattle.lists.proofs.Members.{map-map}
 use Rattle.lists.proofs.Parts.{length-parts, parts-gather}
 use Rattle.paper.specs.Sizes.{maxAces, maxTokens, maxProxies, maxUnits, maxLuacds, idSize, enrolmentSize}
 use Rattle.paper.specs.Identifiers.{kept}
@@ -54,14 +55,10 @@ enrolment-in notEnrolled = refl
 enrolment-in (enrolled id) = refl
 enrolment-in (pending id) = refl
 
-map-map : {A B C : Type 0} (f : A → B) (g : B → C) (h : A → C) → ((x : A) → g (f x) ≡ h x) → (l : List A) → map g (map f l) ≡ map h l
-map-map f g h e [] = refl
-map-map f g h e (x ∷ l) = rw (e x, map-map f g h e l)
-
 pub enrolments-with : (c : Coordinator) (es : List Enrolment) → length es ≡ c .initiators .count → enrolmentsOf (withEnrolments c es) ≡ map settled es
 enrolments-with c es e =
     rw (← e, parts-gather enrolmentBytes enrolmentSize es _ (λ x h. length-enrolment x))
-    (map-map enrolmentBytes enrolmentIn settled enrolment-in es)
+    (map-map enrolmentBytes enrolmentIn settled es (λ x m. enrolment-in x))
 
 pub length-enrolments : (c : Coordinator) → length (enrolmentsOf c) ≡ c .initiators .count
 length-enrolments c = simp (length-map, length-parts)

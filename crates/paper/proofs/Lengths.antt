@@ -7,7 +7,7 @@ use mathlib.Core.Bool.{Bool, true, false, cond}
 use native.Mathlib.Omega.{arith}
 use lib.ListN.{length, take, length-append, length-take, length-map}
 use borrow.Author.Tests.{leb-true}
-use Rattle.lists.specs.Lists.{_∈_, keep, gather, count, below}
+use Rattle.lists.specs.Lists.{_∈_, keep, gather, below}
 use Rattle.lists.specs.Order.{sort}
 use Rattle.lists.specs.Bytes.{beBytes}
 use Rattle.lists.proofs.Members.{all-in, find-in, length-keep}

@@ -4,6 +4,7 @@ pub mod Getters
 pub mod Lengths
 pub mod Stood
 pub mod Unchanged
+pub mod ReadBack
 pub mod RouteOnly
 pub mod Wrong
 pub mod Worked

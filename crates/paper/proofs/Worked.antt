@@ -6,17 +6,17 @@ use mathlib.Core.Option.{some, none}
 use mathlib.Core.Bool.{true, false}
 use native.Mathlib.Omega.{arith}
 use lib.ListN.{replicate}
-use Rattle.lists.specs.Lists.{_∈_, here, find, placeOf, keep, any, gather, parts, nth}
+use Rattle.lists.specs.Lists.{here, find, placeOf, keep, any, gather, parts, nth}
 use Rattle.lists.specs.Bytes.{be, beBytes, sameBytes}
 use Rattle.lists.specs.Pages.{pageSize, pagesUpTo, pagesOf}
 use Rattle.wire.specs.Lun.{lunOf}
 use Rattle.paper.specs.Identifiers.{sameId, kept}
 use Rattle.paper.specs.Contents.{these, everything, held, numbered, notEnrolled, enrolled, pending}
-use Rattle.paper.specs.Orders.{reportAcl, requestToken, disable, assign, release, noAction, readIn, exactly, readManage, readCancel, readOut, readingOf, wrong, order, revokeAll}
-use Rattle.paper.specs.Effects.{turnedOn, turnedOff, flushed, joined, left, linkEvent, own, named, listed, allTokens, issued, ended, assigned, released, Effect, switched, keyed, granted, enrolling, tokening, proxying, suspended, endedUnder, endsEnrolments, ends}
+use Rattle.paper.specs.Orders.{requestToken, assign, release, noAction, exactly, readManage, readCancel, readOut, wrong, order, revokeAll}
+use Rattle.paper.specs.Effects.{turnedOn, turnedOff, flushed, joined, left, linkEvent, own, named, listed, allTokens, issued, ended, assigned, released, switched, keyed, granted, enrolling, tokening, proxying, suspended, endedUnder, endsEnrolments, ends}
 use Rattle.paper.specs.Pages.{acePages, descriptorIn, descriptorsIn, notOverruled, pageLuacds, tokensIn, pageEffects, manageEffects}
-use Rattle.paper.specs.InForce.{inForce, effects}
-use Rattle.paper.specs.Readings.{History, isOn, lastPage, enrolment, placeNamed, token, liveTokens, issuedLessEnded, usable, proxyToken, Stands, OpensTo, OneUnit}
+use Rattle.paper.specs.InForce.{inForce}
+use Rattle.paper.specs.Readings.{History, isOn, lastPage, enrolment, placeNamed, token, liveTokens, issuedLessEnded, usable, proxyToken, OpensTo, OneUnit}
 use Rattle.paper.proofs.Sending.{transport, access, luacd, grant, manage}
 use Rattle.paper.proofs.Wrong.{three}
 use Rattle.paper.specs.declared.state.IdType.the-variants.{AccessId, TransportId}

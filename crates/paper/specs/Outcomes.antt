@@ -1,6 +1,6 @@
 -- The public functions: what is decided on every input, and the outcome of a decision.
 use Prim.Native.Nat.{ℕ}
-use mathlib.Core.List.{List, [], _∷_}
+use mathlib.Core.List.{List, []}
 use mathlib.Core.Option.{Option, some, none}
 use mathlib.Core.Bool.{cond, not}
 use lib.ListN.{length, take}

@@ -1,7 +1,7 @@
 -- Refusal 2: "the state handed in breaks a standing rule". One definition for each rule, in the paper's order.
 use Prim.Native.Nat.{ℕ}
-use mathlib.Core.List.{List, [], _∷_, map}
-use mathlib.Core.Bool.{Bool, true, false, cond, not, _&&_, _||_}
+use mathlib.Core.List.{List, [], map}
+use mathlib.Core.Bool.{Bool, true, cond, not, _&&_, _||_}
 use lib.Dec.{eqb, leb, ltb}
 use Rattle.lists.specs.Lists.{all, pairs, isSome}
 use Rattle.wire.specs.Lun.{lunOf, lunForm}

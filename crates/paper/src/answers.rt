@@ -79,19 +79,58 @@ pub fn code_of(k: Condition) -> Code
     ensures { λ r. ⌜ r ≡ codeOf k ⌝ }
 {
     match k {
-        Condition::OtherOperation => Code { code: 0x20, qualifier: 0x00 },
-        Condition::InvalidField => Code { code: 0x24, qualifier: 0x00 },
-        Condition::WrongLength => Code { code: 0x1a, qualifier: 0x00 },
-        Condition::WrongKey => Code { code: 0x20, qualifier: 0x03 },
-        Condition::BadList => Code { code: 0x26, qualifier: 0x00 },
-        Condition::PendingEnrolled => Code { code: 0x20, qualifier: 0x01 },
-        Condition::NoAce => Code { code: 0x20, qualifier: 0x02 },
-        Condition::EnrolledElsewhere => Code { code: 0x20, qualifier: 0x08 },
-        Condition::BadLun => Code { code: 0x20, qualifier: 0x09 },
-        Condition::DeadToken => Code { code: 0x20, qualifier: 0x0a },
-        Condition::Clash => Code { code: 0x20, qualifier: 0x0b },
-        Condition::NoRoom => Code { code: 0x55, qualifier: 0x05 },
-        Condition::OpensNothing => Code { code: 0x25, qualifier: 0x00 },
+        Condition::OtherOperation => Code {
+            code: 0x20,
+            qualifier: 0x00,
+        },
+        Condition::InvalidField => Code {
+            code: 0x24,
+            qualifier: 0x00,
+        },
+        Condition::WrongLength => Code {
+            code: 0x1a,
+            qualifier: 0x00,
+        },
+        Condition::WrongKey => Code {
+            code: 0x20,
+            qualifier: 0x03,
+        },
+        Condition::BadList => Code {
+            code: 0x26,
+            qualifier: 0x00,
+        },
+        Condition::PendingEnrolled => Code {
+            code: 0x20,
+            qualifier: 0x01,
+        },
+        Condition::NoAce => Code {
+            code: 0x20,
+            qualifier: 0x02,
+        },
+        Condition::EnrolledElsewhere => Code {
+            code: 0x20,
+            qualifier: 0x08,
+        },
+        Condition::BadLun => Code {
+            code: 0x20,
+            qualifier: 0x09,
+        },
+        Condition::DeadToken => Code {
+            code: 0x20,
+            qualifier: 0x0a,
+        },
+        Condition::Clash => Code {
+            code: 0x20,
+            qualifier: 0x0b,
+        },
+        Condition::NoRoom => Code {
+            code: 0x55,
+            qualifier: 0x05,
+        },
+        Condition::OpensNothing => Code {
+            code: 0x25,
+            qualifier: 0x00,
+        },
     }
 }
 
