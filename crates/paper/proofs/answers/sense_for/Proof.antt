@@ -1,3 +1,4 @@
+-- Each case is the definition's own clause; a condition's sense is what sense_of ensures.
 use borrow.Author.Needs.{needs}
 use Rattle.paper.proofs.answers.sense_for.Statement.{statement}
 use Rattle.paper.proofs.answers.sense_for.Tie as tie

@@ -1,3 +1,4 @@
+-- Each table is the empty one that its callee ensures.
 use Rattle.paper.specs.Fresh.{fresh}
 use borrow.Author.Needs.{needs}
 use Rattle.paper.proofs.state.fresh_coordinator.Statement.{statement}

@@ -1,3 +1,4 @@
+-- The blanks are the definition written out.
 use borrow.Author.Needs.{needs}
 use Rattle.paper.proofs.state.no_ace.Statement.{statement}
 use Rattle.paper.proofs.state.no_ace.Tie as tie

@@ -1,3 +1,4 @@
+-- Zeros are no identifiers and no enrolments, padded.
 use mathlib.Core.Path.{refl}
 use Rattle.lists.specs.Lists.{gather}
 use Rattle.paper.proofs.state.no_initiators.Statement.{statement}

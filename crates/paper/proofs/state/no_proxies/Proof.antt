@@ -1,3 +1,4 @@
+-- An array of blanks is no entries, padded.
 use borrow.Author.Needs.{needs}
 use Rattle.paper.proofs.state.no_proxies.Statement.{statement}
 use Rattle.paper.proofs.state.no_proxies.Tie as tie

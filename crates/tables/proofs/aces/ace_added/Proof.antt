@@ -1,3 +1,4 @@
+-- The entries in use are copied into a blank table, and the new one goes behind them.
 use Prim.Native.Nat.{_-_}
 use mathlib.Core.List.{[], _∷_}
 use native.Mathlib.Omega.{arith}

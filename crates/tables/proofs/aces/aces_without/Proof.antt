@@ -1,3 +1,4 @@
+-- What is left to filter decides: each turn keeps or drops the next ACE in use.
 use Prim.Native.Nat.{_-_}
 use mathlib.Core.Path.{ap, sym, _∙_}
 use mathlib.Core.Bool.{not}

@@ -1,3 +1,4 @@
+-- An ACE of everything lists none: its LUACDs are blanks.
 use borrow.Author.Needs.{needs}
 use Rattle.tables.proofs.aces.all_units_ace.Statement.{statement}
 use Rattle.tables.proofs.aces.all_units_ace.Tie as tie

@@ -1,3 +1,4 @@
+-- An identifier has an ACE exactly when its place is below the count.
 use mathlib.Core.Path.{_≡_, sym, _∙_}
 use native.Mathlib.Omega.{arith}
 use borrow.Author.Needs.{needs}

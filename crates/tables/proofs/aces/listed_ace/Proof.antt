@@ -1,3 +1,4 @@
+-- The LUACDs in use are copied into a blank array.
 use Prim.Native.Nat.{_-_}
 use mathlib.Core.List.{[]}
 use native.Mathlib.Omega.{arith}

@@ -1,3 +1,4 @@
+-- The one table that changes is the one with the proxy LUN added.
 use mathlib.Core.Path.{ap, _∙_}
 use borrow.Author.Needs.{needs}
 use Rattle.paper.specs.Tables.{withProxyTable}

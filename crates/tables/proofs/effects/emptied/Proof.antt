@@ -1,3 +1,4 @@
+-- Every setter's table is the empty one, in the definition's order.
 use mathlib.Core.Path.{ap₂, _∙_}
 use borrow.Author.Needs.{needs}
 use Rattle.paper.specs.Tables.{withInitiators, withAcl, withTokenTable, withProxyTable}

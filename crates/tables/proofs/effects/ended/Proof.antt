@@ -1,3 +1,4 @@
+-- Tokens and proxy LUNs are filtered by the same ending, both against the tokens before it.
 use mathlib.Core.Path.{ap, ap₂, _∙_}
 use borrow.Author.Needs.{needs}
 use Rattle.paper.specs.Tables.{withTokenTable, withProxyTable}

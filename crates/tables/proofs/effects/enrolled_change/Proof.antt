@@ -1,3 +1,4 @@
+-- The one table that changes is the initiators', with the enrolments after the change.
 use mathlib.Core.Path.{ap, _∙_}
 use borrow.Author.Needs.{needs}
 use Rattle.paper.specs.Tables.{withInitiators}

@@ -1,3 +1,4 @@
+-- Key, switch and generation are set at once; the definition sets them one after the other.
 use borrow.Author.Needs.{needs}
 use Rattle.paper.specs.Applied.{applied}
 use Rattle.tables.proofs.effects.switched_on.Statement.{statement}

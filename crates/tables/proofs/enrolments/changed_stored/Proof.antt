@@ -1,3 +1,4 @@
+-- Each change is its clause: the initiator's own row, every row, or the row as it was.
 use borrow.Author.Needs.{needs}
 use borrow.Author.Tests.{eq-eqb, ne-eqb}
 use Rattle.tables.proofs.enrolments.changed_stored.Statement.{statement}

@@ -1,3 +1,4 @@
+-- Under that AccessID the row is blank; otherwise, and if not enrolled, it is as it was.
 use borrow.Author.Needs.{needs}
 use mathlib.Core.Path.{sym, _∙_, ap}
 use Rattle.tables.specs.Changes.{storedFor}

@@ -1,3 +1,4 @@
+-- Row by row the changed enrolment is written behind those that are written already.
 use Prim.Native.Nat.{_-_}
 use native.Mathlib.Omega.{arith}
 use borrow.Author.Needs.{needs}

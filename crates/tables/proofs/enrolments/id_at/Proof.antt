@@ -1,3 +1,4 @@
+-- A TransportID is kept whole, so keeping it copies its bytes.
 use borrow.Author.Needs.{needs}
 use mathlib.Core.Path.{_∙_}
 use Rattle.tables.proofs.Enrolling.{id-out, id-rest}

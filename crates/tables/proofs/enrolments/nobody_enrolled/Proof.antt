@@ -1,3 +1,4 @@
+-- Zeros are the table of no enrolments.
 use mathlib.Core.Path.{refl}
 use Rattle.lists.specs.Lists.{gather}
 use Rattle.tables.proofs.enrolments.nobody_enrolled.Statement.{statement}

@@ -1,3 +1,4 @@
+-- The stage says which case the enrolment is, and that case is stored.
 use borrow.Author.Needs.{needs}
 use borrow.Author.Tests.{eq-eqb, ne-eqb}
 use Rattle.tables.proofs.enrolments.same_stored.Statement.{statement}

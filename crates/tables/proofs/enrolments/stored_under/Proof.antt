@@ -1,3 +1,4 @@
+-- The AccessID is stored as it is kept.
 use borrow.Author.Needs.{needs}
 use Rattle.tables.proofs.enrolments.stored_under.Statement.{statement}
 use Rattle.tables.proofs.enrolments.stored_under.Tie as tie

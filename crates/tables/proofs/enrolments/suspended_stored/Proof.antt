@@ -1,3 +1,4 @@
+-- Stage 1 becomes 2; every other row is as it was.
 use borrow.Author.Needs.{needs}
 use mathlib.Core.Path.{sym, _∙_, ap}
 use borrow.Author.Tests.{eq-eqb, ne-eqb}

@@ -1,3 +1,4 @@
+-- Stage and identifier go into the row one byte after the other.
 use Prim.Native.Nat.{_+_, _-_, _≤_}
 use mathlib.Core.Path.{_≡_, sym, _∙_}
 use native.Mathlib.Omega.{arith}

@@ -1,3 +1,4 @@
+-- What is left to look at decides: a hit ends the search.
 use Prim.Native.Nat.{_-_}
 use mathlib.Core.Path.{_≡_, refl, sym, _∙_}
 use native.Mathlib.Omega.{arith}

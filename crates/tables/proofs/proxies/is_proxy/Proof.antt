@@ -1,3 +1,4 @@
+-- The initiator is compared first, then the LUN's eight bytes.
 use borrow.Author.Needs.{needs}
 use borrow.Author.Tests.{eq-eqb, ne-eqb}
 use Rattle.tables.proofs.proxies.is_proxy.Statement.{statement}

@@ -1,3 +1,4 @@
+-- Without a live token nothing ends; with one, that token is asked.
 use mathlib.Core.Path.{sym, _∙_}
 use borrow.Author.Needs.{needs}
 use lib.ListN.{take}

@@ -1,3 +1,4 @@
+-- Each way of ending is its own clause of the definition.
 use borrow.Author.Needs.{needs}
 use borrow.Author.Tests.{eq-eqb, ne-eqb}
 use Rattle.tables.proofs.tokens.ends_token.Statement.{statement}

@@ -1,3 +1,4 @@
+-- What is left to filter decides: each turn keeps or drops the next token in use.
 use Prim.Native.Nat.{_-_}
 use mathlib.Core.Logic.{⊎-elim}
 use native.Mathlib.Omega.{arith}
