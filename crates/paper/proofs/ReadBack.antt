@@ -19,13 +19,14 @@ use Rattle.lists.proofs.Parts.{parts-gather, length-gather}
 use Rattle.wire.specs.Lun.{lunOf, headOf}
 use Rattle.paper.specs.Sizes.{idSize}
 use Rattle.paper.specs.Identifiers.{typeByte, kept}
-use Rattle.paper.specs.Pages.{pageCode, pageLength, idTypeOf, pageType, idLengthIn, pageId, keptId, Descriptor, descriptorIn, descriptorsIn, descriptorRun, isDefault, luacdOf, tokenIn, tokensIn}
+use Rattle.paper.specs.Pages.{pageCode, pageLength, idTypeOf, pageType, idLengthIn, pageId, keptId, descriptorIn, descriptorsIn, descriptorRun, isDefault, luacdOf, tokenIn, tokensIn}
 use Rattle.paper.specs.Reports.{luacdBytes, headBytes, identifierBytes, tokenBytes}
 use Rattle.paper.proofs.Getters.{length-kept}
 use Rattle.paper.proofs.Lengths.{length-luacd}
 use Rattle.paper.specs.declared.state.IdType.{IdType}
 use Rattle.paper.specs.declared.state.IdType.the-variants.{AccessId, TransportId}
 use Rattle.paper.specs.declared.state.Luacd.{Luacd}
+use Rattle.paper.specs.declared.state.Descriptor.{Descriptor}
 use Rattle.paper.specs.declared.state.Ace.{Ace}
 use Rattle.paper.specs.declared.state.Token.{Token}
 

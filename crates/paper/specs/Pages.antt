@@ -16,6 +16,7 @@ use Rattle.paper.specs.Effects.{turnedOn, flushed, listed, allTokens, en
 use Rattle.paper.specs.declared.state.IdType.{IdType}
 use Rattle.paper.specs.declared.state.IdType.the-variants.{AccessId, TransportId}
 use Rattle.paper.specs.declared.state.Luacd.{Luacd}
+use Rattle.paper.specs.declared.state.Descriptor.{Descriptor}
 
 -- "Header: key 4-11, new key 12-19, FLUSH bit 7 of byte 21, DLgeneration 24-27."
 abbrev pub keyIn : List ℕ → ℕ
@@ -79,11 +80,6 @@ abbrev pub descriptorRun : ℕ → List ℕ → List ℕ
 descriptorRun n page = drop (runPlace n) page
 
 -- a LUACD as it is sent: its access mode, its LUN and its default LUN
-pub record Descriptor : Type 0 where
-  pub mode : ℕ
-  pub lun : ℕ
-  pub default : ℕ
-
 unfoldable pub descriptorIn : List ℕ → Descriptor
 descriptorIn bytes = record { mode = getD bytes 0 0; lun = be 8 bytes 4; default = be 8 bytes 12 }
 

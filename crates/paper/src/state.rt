@@ -32,6 +32,13 @@ pub struct Luacd {
     pub unit: u8,
 }
 
+// A LUACD as it is sent: its access mode, its LUN and its default LUN.
+pub struct Descriptor {
+    pub mode: u8,
+    pub lun: u64,
+    pub default: u64,
+}
+
 pub struct Ace {
     pub kind: IdType,
     pub extent: Extent,
