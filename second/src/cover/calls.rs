@@ -3,8 +3,9 @@
 use super::{names, Call, Tally};
 use crate::coordinator::{action_of, initiator, Action, Command, Outcome};
 use crate::fault::Fault;
+use crate::ground::Ground;
 use crate::pages::leading;
-use crate::rows::{rows, Ground};
+use crate::rows::rows;
 use crate::state::{AccessId, Ace, Coordinator, Enrolment, Identifier};
 
 /// Refusals 3 to 5, operation code and service action.

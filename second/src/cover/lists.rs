@@ -1,13 +1,14 @@
 //! MANAGE ACL lists: phases, pages, and what happens on the way.
 
-use super::{names, Call, Tally};
+use super::{names, phases, Call, Tally};
 use crate::bytes::{lun_number, number};
 use crate::coordinator::Outcome;
 use crate::fault::Fault;
-use crate::manage::{check_key, check_luns, check_room, end_state, read_all, stands_in, HEADER};
+use crate::ground::Ground;
+use crate::manage::{end_state, read_all, stands_in, HEADER};
 use crate::pages::{cut, luacds, read, Page};
-use crate::rows::{clash_of_any, rows, Ground};
-use crate::state::{Ace, Coordinator, Enrolment, Identifier, Luacd, MOST_LUACDS};
+use crate::rows::{clash_of_any, rows};
+use crate::state::{Ace, Coordinator, Enrolment, Identifier, Luacd, TransportId, MOST_LUACDS};
 
 pub fn manage(call: &Call, tally: &mut Tally) {
     let list = &call.command.list;
@@ -21,20 +22,8 @@ pub fn manage(call: &Call, tally: &mut Tally) {
     }
 }
 
-fn phase_of(fault: Fault) -> u8 {
-    match fault {
-        Fault::PageHeadCut | Fault::PageBodyCut => 1,
-        Fault::WrongKey => 2,
-        Fault::LunForm | Fault::NoSuchDefaultLun => 4,
-        Fault::TooManyAces | Fault::TooManyLuacds => 5,
-        Fault::Clash(..) => 6,
-        _ => 3,
-    }
-}
-
 fn failed(call: &Call, list: &[u8], fault: Fault, tally: &mut Tally) {
-    let phase = phase_of(fault);
-    tally.count(format!("phase.{phase}"));
+    tally.count(format!("phase.{}", phases::kind_of(fault).0));
     let c = call.before;
     if fault == Fault::Generation {
         tally.count_if(list.len() == HEADER, "fault.generation.page-less");
@@ -47,9 +36,7 @@ fn failed(call: &Call, list: &[u8], fault: Fault, tally: &mut Tally) {
             remember_w(call, tally);
         }
     }
-    if next_phase_fails_too(c, list, phase) {
-        tally.count(format!("phases.{phase}-and-{}", phase + 1));
-    }
+    phases::count(c, list, fault, tally);
     if fault == Fault::PageBodyCut {
         tally.count_if(
             unknown_code_cut(&list[HEADER..]),
@@ -76,26 +63,6 @@ fn remember_w(call: &Call, tally: &mut Tally) {
     }
 }
 
-/// Whether a list that fails in one phase would fail in the next one as well.
-fn next_phase_fails_too(c: &Coordinator, list: &[u8], phase: u8) -> bool {
-    if phase == 1 {
-        return check_key(c, list).is_err();
-    }
-    let Ok(parts) = cut(&list[HEADER..]) else {
-        return false;
-    };
-    if phase == 2 {
-        return read_all(c, list, &parts).is_err();
-    }
-    let pages: Vec<Page> = parts.iter().filter_map(|part| read(part).ok()).collect();
-    match phase {
-        3 => check_luns(c, &pages).is_err(),
-        4 => check_room(c, &pages, c).is_err(),
-        5 => clash_of_any(&end_state(c, list, &pages)).is_some(),
-        _ => false,
-    }
-}
-
 fn unknown_code_cut(mut rest: &[u8]) -> bool {
     while rest.len() >= 4 {
         let size = 4 + usize::from(rest[2]) * 256 + usize::from(rest[3]);
@@ -110,6 +77,12 @@ fn unknown_code_cut(mut rest: &[u8]) -> bool {
 /// Kinds of phase 3 and 4 faults that share a name.
 fn finer(parts: &[&[u8]], fault: Fault, tally: &mut Tally) {
     match fault {
+        Fault::PageCode => parts.iter().for_each(|part| page_code(part, tally)),
+        Fault::IdentifierType => {
+            let top = |part: &&&[u8]| part[0] < 2 && matches!(part.get(5), Some(0x80 | 0x81));
+            let any = parts.iter().any(|part| top(&part));
+            tally.count_if(any, "fault.identifier-type.top-bit");
+        }
         Fault::PageLength(0 | 1) => {
             let short = parts.iter().any(|part| part[0] < 2 && part.len() < 32);
             tally.count_if(short, "fault.page-length-short");
@@ -137,6 +110,20 @@ fn finer(parts: &[&[u8]], fault: Fault, tally: &mut Tally) {
             tally.count_if(over, "fault.lun-form.overruled");
         }
         _ => {}
+    }
+}
+
+/// A page of a code over 03h that a reader of fewer bits would take, or that
+/// gives a reader of lengths nothing to dislike.
+fn page_code(part: &[u8], tally: &mut Tally) {
+    if part[0] < 4 {
+        return;
+    }
+    tally.count_if(part.len() == 4, "fault.page-code.empty");
+    let mut masked = part.to_vec();
+    masked[0] &= 0x7f;
+    if part[0] >= 0x80 && read(&masked).is_ok() {
+        tally.count(format!("fault.page-code.{:02X}h", part[0]));
     }
 }
 
@@ -369,8 +356,18 @@ fn enrolments(c: &Coordinator, page: &Page, next: &Coordinator, tally: &mut Tall
         Page::GrantAll { id, keeps } => (id, *keeps, false),
         _ => return,
     };
-    let Identifier::AccessId(access_id) = id else {
-        return;
+    let access_id = match id {
+        Identifier::AccessId(access_id) => access_id,
+        Identifier::TransportId(bytes) => {
+            let what = match (c.acl.contains_key(id), removal) {
+                _ if matches!(page, Page::GrantAll { .. }) => "everything",
+                (false, false) => "adds",
+                (true, false) => "replaces",
+                (_, true) => "removes",
+            };
+            let alike = !keeps && enrolled_alike(c, bytes);
+            return tally.count_if(alike, format!("list.transportid-alike.{what}"));
+        }
     };
     let equal = c.acl.get(id) == next.acl.get(id);
     for held in &c.enrolments {
@@ -389,6 +386,12 @@ fn enrolments(c: &Coordinator, page: &Page, next: &Coordinator, tally: &mut Tall
         let ends_equal = !keeps && !removal && equal;
         tally.count_if(ends_equal, "list.nocncl-0.equal-ace-ends");
     }
+}
+
+/// An enrolment stands under the AccessID that begins as a TransportID does.
+fn enrolled_alike(c: &Coordinator, id: &TransportId) -> bool {
+    let mut held = c.enrolments.iter().filter_map(|e| e.access_id());
+    held.any(|access_id| access_id[..] == id[..access_id.len()])
 }
 
 /// An ACE of the other type whose identifier has the same bytes.

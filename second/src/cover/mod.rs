@@ -5,6 +5,7 @@ mod calls;
 mod items;
 mod lists;
 mod names;
+mod phases;
 mod proxies;
 mod questions;
 
@@ -81,9 +82,13 @@ pub struct Call<'a> {
     lent: &'a [u8],
 }
 
-/// Counts a journal's items and prints them; how many are missing.
-pub fn cover(input: &mut impl BufRead, output: &mut impl Write) -> io::Result<u64> {
-    let tally = tally(input)?;
+/// Counts the items of journals and prints them; how many are missing. Each
+/// journal begins with a coordinator of its own.
+pub fn cover(journals: Vec<Box<dyn BufRead + '_>>, output: &mut impl Write) -> io::Result<u64> {
+    let mut tally = Tally::new();
+    for mut journal in journals {
+        count_journal(&mut journal, &mut tally)?;
+    }
     for name in items::all() {
         let count = tally.counts.get(&name).copied().unwrap_or(0);
         writeln!(output, "{name} {count}")?;
@@ -98,21 +103,23 @@ pub fn cover(input: &mut impl BufRead, output: &mut impl Write) -> io::Result<u6
 
 /// The names counted that no item has: always none.
 pub fn unlisted(input: &mut impl BufRead) -> io::Result<Vec<String>> {
-    Ok(tally(input)?.unlisted.into_iter().collect())
+    let mut tally = Tally::new();
+    count_journal(input, &mut tally)?;
+    Ok(tally.unlisted.into_iter().collect())
 }
 
-fn tally(input: &mut impl BufRead) -> io::Result<Tally> {
-    let mut tally = Tally::new();
+fn count_journal(input: &mut impl BufRead, tally: &mut Tally) -> io::Result<()> {
     let mut c = Coordinator::default();
+    tally.memory = Memory::default();
     while let Some(line) = next_line(input)? {
-        count_line(&line, &mut tally);
+        count_line(&line, tally);
         if let Ok(Some(statement)) = read_line(&line) {
             let before = c.clone();
             let answer = put_to(&mut c, &statement);
-            count_statement(&before, &statement, &answer, &c, &mut tally);
+            count_statement(&before, &statement, &answer, &c, tally);
         }
     }
-    Ok(tally)
+    Ok(())
 }
 
 fn count_line(line: &Line, tally: &mut Tally) {

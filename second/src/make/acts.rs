@@ -1,9 +1,12 @@
 //! Single statements, aimed at the state they meet.
 
 use super::{wire, Maker};
+use crate::ground::Ground;
 use crate::report::{reach_list, report_acl};
-use crate::rows::Ground;
 use crate::state::Identifier;
+
+/// Allocation lengths of which a narrow reader would see too little.
+const WIDE: [usize; 3] = [0x1_0000, 0x0100_0000, u32::MAX as usize];
 
 impl Maker {
     pub(super) fn act(&mut self) {
@@ -57,7 +60,7 @@ impl Maker {
         let own = self.luns_on(initiator, &[Ground::T, Ground::A]);
         let other = self.luns_on(initiator, &[Ground::W, Ground::X, Ground::O]);
         let lun = match self.rng.below(10) {
-            0 => self.malformed_lun(),
+            0 => self.malformed_of(&own),
             1 => wire::lun(self.rng.byte()),
             2..=4 if !other.is_empty() => wire::lun(self.rng.pick(&other).unwrap_or(0)),
             _ => wire::lun(self.rng.pick(&own).unwrap_or(0)),
@@ -67,6 +70,10 @@ impl Maker {
             0 => Some(0),
             1 => self.rng.pick(&live),
             2..=4 => self.rng.pick(&self.issued),
+            5 => self
+                .rng
+                .pick(&live)
+                .map(|number| number ^ 1 << 32 << self.rng.below(32)),
             _ => None,
         };
         let number = number.unwrap_or(self.new_number());
@@ -77,7 +84,7 @@ impl Maker {
         let allocation = match self.rng.below(12) {
             0 => self.rng.below(8),
             1 => 9 + self.rng.below(1000),
-            2 => u32::MAX as usize,
+            2 => WIDE[self.rng.below(3)],
             _ => 8,
         };
         let buffer = match self.rng.below(12) {
@@ -121,8 +128,8 @@ impl Maker {
             .map(|token| token.named)
             .collect();
         let lun = match self.rng.below(8) {
-            0 => self.malformed_lun(),
-            1 => wire::lun(self.rng.byte()),
+            0 | 1 => self.malformed_of(&named),
+            2 => wire::lun(self.rng.byte()),
             _ => wire::lun(self.rng.pick(&named).unwrap_or(1)),
         };
         self.out(initiator, 8, &lun.to_be_bytes());
@@ -156,13 +163,21 @@ impl Maker {
         let own = self.luns_on(initiator, &[Ground::X]);
         let other = self.luns_on(initiator, &[Ground::T, Ground::A, Ground::W]);
         let lun = match self.rng.below(8) {
-            0 => self.malformed_lun(),
+            0 => self.malformed_of(&own),
             1 => wire::lun(self.rng.byte()),
             2 => wire::lun(self.proxy_lun_of_any()),
             3 => wire::lun(self.rng.pick(&other).unwrap_or(0)),
             _ => wire::lun(self.rng.pick(&own).unwrap_or(0)),
         };
         self.out(initiator, 0x0a, &lun.to_be_bytes());
+    }
+
+    /// A LUN of another form whose nn is mostly that of one of these.
+    fn malformed_of(&mut self, luns: &[u8]) -> u64 {
+        match self.rng.pick(luns) {
+            Some(nn) if self.rng.below(4) > 0 => self.malformed(nn),
+            _ => self.malformed_lun(),
+        }
     }
 
     /// A LUN that somebody holds as proxy LUN.
@@ -202,7 +217,7 @@ impl Maker {
             1..=3 => self.rng.below(shown + 1),
             4 if whole > shown => whole,
             _ if whole > 600 => shown,
-            5 => u32::MAX as usize,
+            5 => WIDE[self.rng.below(3)],
             6 => whole + self.rng.below(300),
             _ => whole,
         };
@@ -243,7 +258,7 @@ impl Maker {
         let grounds = [Ground::T, Ground::A, Ground::W, Ground::X, Ground::O];
         let known = self.luns_on(initiator, &grounds);
         let lun = match self.rng.below(10) {
-            0 => self.malformed_lun(),
+            0 => self.malformed_of(&known),
             1 => wire::lun(self.rng.byte()),
             2 => wire::lun(self.some_home()),
             _ => wire::lun(self.rng.pick(&known).unwrap_or(0)),

@@ -36,7 +36,7 @@ impl Maker {
     }
 
     /// T has unit 0, and A (or W) unit 1, each at its home LUN.
-    fn enrolled_beside_t(&mut self, initiator: usize) {
+    pub(super) fn enrolled_beside_t(&mut self, initiator: usize) {
         self.out(initiator, 3, &[]);
         let mine = grant_page(self.transport(initiator), false, &[self.at_home(0)]);
         let access = self.access(0);
@@ -152,13 +152,18 @@ impl Maker {
         let id = self.ids[0];
         self.enroll_under(initiator, id);
         self.reach();
+        self.route_home(initiator, 1);
         if self.rng.once_in(2) {
             self.link(initiator);
+            self.route_home(initiator, 1);
         }
         self.request_with(initiator, lun(self.home(1)), token ^ 6);
         self.send_pages(vec![mine]);
+        self.route_home(initiator, 1);
         self.request_with(initiator, lun(self.home(1)), token ^ 8);
         self.reach();
+        self.out(initiator, 3, &[]);
+        self.route_home(initiator, 1);
         self.out(initiator, 0x0a, &lun(self.home(1)).to_be_bytes());
         self.say(&format!("route {initiator} {:016x}", lun(self.home(1))));
     }

@@ -5,6 +5,7 @@ mod acts;
 mod clashes;
 mod lists;
 mod odd;
+mod phases;
 mod rng;
 mod scripts;
 mod setups;
@@ -12,19 +13,21 @@ mod tokens;
 mod wire;
 
 use crate::bytes::hex;
+use crate::ground::Ground;
 use crate::journal::{put_to, read_line, Answer};
 use crate::lines::{Line, MOST_LINE};
-use crate::rows::{rows, Ground};
+use crate::rows::rows;
 use crate::state::{AccessId, Coordinator};
 use rng::Rng;
 use std::io::{self, Write};
 
-pub const THEMES: [&str; 10] = [
+pub const THEMES: [&str; 11] = [
     "mixed", "setups", "lists", "clashes", "proxies", "enrols", "reports", "sizes", "odd", "lines",
+    "phases",
 ];
 
 /// What each theme is aimed at, for the head of its journals.
-const AIMS: [&str; 10] = [
+const AIMS: [&str; 11] = [
     "all of it, each run under one of the other themes or none",
     "setups that keep the rules or break one, and what a refused one leaves",
     "MANAGE ACL lists, right ones and each malformation of the six phases",
@@ -35,6 +38,7 @@ const AIMS: [&str; 10] = [
     "16 and 17 LUACDs, 32 and 33 ACEs, everything of many units",
     "refusals, codes, lengths, lists of length 0, off and on again",
     "lines that are no statements, among statements",
+    "lists with faults of two phases, by each pair of kinds",
 ];
 
 /// What the command line asks for.
@@ -136,6 +140,7 @@ impl Maker {
             "sizes" => self.size_script(),
             "odd" => self.odd(),
             "lines" => self.no_statement(),
+            "phases" => self.all_phases(),
             _ => self.act(),
         }
     }
@@ -247,7 +252,13 @@ impl Maker {
 
     /// Eight bytes that are no LUN of the house form.
     fn malformed_lun(&mut self) -> u64 {
-        let good = wire::lun(self.rng.byte());
+        let nn = self.rng.byte();
+        self.malformed(nn)
+    }
+
+    /// The LUN of an nn with one bit set that must not be.
+    fn malformed(&mut self, nn: u8) -> u64 {
+        let good = wire::lun(nn);
         let byte = [0, 2, 3, 4, 5, 6, 7][self.rng.below(7)];
         good | 1 << (8 * (7 - byte) + self.rng.below(8))
     }

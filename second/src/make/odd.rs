@@ -114,6 +114,9 @@ impl Maker {
         };
         let said = [0, 12, 24, 16_777_228, 65_548][self.rng.below(5)];
         let mut given = [1, 8, 12, 23, 24, 25][self.rng.below(6)];
+        if said > 0xffff && self.rng.once_in(2) {
+            given = said & 0xffff;
+        }
         if said == given {
             given += 1;
         }

@@ -5,11 +5,13 @@ use super::Maker;
 
 impl Maker {
     pub(super) fn any_script(&mut self) {
-        match self.rng.below(5) {
+        match self.rng.below(7) {
             0 => self.clash_script(),
             1 => self.proxy_script(),
             2 => self.enrol_script(),
             3 => self.report_script(),
+            4 => self.some_phases(),
+            5 => self.alike(),
             _ => self.size_script(),
         }
     }
@@ -34,9 +36,10 @@ impl Maker {
             return self.act();
         }
         let initiator = self.any_initiator();
-        match self.rng.below(4) {
+        match self.rng.below(5) {
             0 => self.kept_or_ended(initiator),
             1 => self.everything_by_enrolment(initiator),
+            2 => self.alike(),
             _ => self.enrol_and_back(initiator),
         }
     }
@@ -52,7 +55,7 @@ impl Maker {
         if self.rng.once_in(2) {
             self.link(initiator);
         }
-        let page = match self.rng.below(6) {
+        let mut page = match self.rng.below(6) {
             0 => grant_page(access, true, &[luacd]),
             1 => grant_page(access, false, &[luacd]),
             2 => grant_page(access, true, &[]),
@@ -60,6 +63,9 @@ impl Maker {
             4 => grant_all_page(access, true),
             _ => grant_all_page(access, false),
         };
+        if self.rng.once_in(2) {
+            page[4] |= self.rng.byte() & 0x7f;
+        }
         let mut sketch = self.right_header();
         sketch.flush = self.rng.once_in(3);
         sketch.pages = vec![page];
@@ -69,7 +75,7 @@ impl Maker {
         self.reach();
     }
 
-    fn route_home(&mut self, initiator: usize, unit: usize) {
+    pub(super) fn route_home(&mut self, initiator: usize, unit: usize) {
         let at = lun(self.home(unit));
         self.say(&format!("route {initiator} {at:016x}"));
     }
@@ -108,6 +114,41 @@ impl Maker {
             self.out(initiator, 3, &[]);
             self.link(initiator);
         }
+    }
+
+    /// Pages of a TransportID that begins as the AccessID of an enrolment does.
+    fn alike(&mut self) {
+        if self.units() == 0 || self.initiators() == 0 {
+            return self.act();
+        }
+        let initiator = self.any_initiator();
+        let (_, own) = self.transport(initiator);
+        let mut id = [0; 16];
+        id.copy_from_slice(&own[..16]);
+        let mut foreign = own;
+        foreign[23] ^= 0x80;
+        let luacd = self.at_home(0);
+        self.out(initiator, 3, &[]);
+        self.send_pages(vec![
+            grant_page((1, own), false, &[]),
+            grant_page((0, own), false, &[luacd]),
+        ]);
+        self.enroll_under(initiator, id);
+        if self.rng.once_in(2) {
+            self.link(initiator);
+        }
+        for page in [
+            grant_page((1, own), false, &[luacd]),
+            grant_page((1, own), false, &[luacd]),
+            grant_page((1, foreign), false, &[luacd]),
+            grant_all_page((1, foreign), false),
+            grant_page((1, own), false, &[]),
+            grant_page((1, foreign), false, &[]),
+        ] {
+            self.send_pages(vec![page]);
+            self.route_home(initiator, 0);
+        }
+        self.reach();
     }
 
     // Reports.

@@ -20,7 +20,7 @@ impl Maker {
     }
 
     fn fleet(&mut self, theme: usize) -> (usize, usize) {
-        if THEMES[theme] == "sizes" {
+        if matches!(THEMES[theme], "sizes" | "phases") {
             return (1 + self.rng.below(3), 17 + self.rng.below(6));
         }
         match self.rng.below(16) {
