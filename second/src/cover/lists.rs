@@ -8,7 +8,7 @@ use crate::ground::Ground;
 use crate::manage::{end_state, read_all, stands_in, HEADER};
 use crate::pages::{cut, luacds, read, Page};
 use crate::rows::{clash_of_any, rows};
-use crate::state::{Ace, Coordinator, Enrolment, Identifier, Luacd, TransportId, MOST_LUACDS};
+use crate::state::{Ace, Coordinator, Enrolment, Identifier, Luacd, MOST_LUACDS};
 
 pub fn manage(call: &Call, tally: &mut Tally) {
     let list = &call.command.list;
@@ -31,6 +31,7 @@ fn failed(call: &Call, list: &[u8], fault: Fault, tally: &mut Tally) {
         tally.count_if(old, "disable.old-generation-after");
     }
     if let Fault::Clash(one, other, clash) = fault {
+        tally.count_if(list[21] & 0x80 != 0, "list.flush.not-by-a-clash");
         tally.count(format!("clash.manage.{}", names::clash(one, other, clash)));
         if other == Ground::W {
             remember_w(call, tally);
@@ -45,10 +46,28 @@ fn failed(call: &Call, list: &[u8], fault: Fault, tally: &mut Tally) {
     }
     if let Ok(parts) = cut(&list[HEADER..]) {
         finer(&parts, fault, tally);
+        if fault == Fault::TooManyAces {
+            one_ace_more(c, &parts, tally);
+        }
         if fault == Fault::TooManyLuacds {
             let last = parts.last().and_then(|part| read(part).ok());
             let there = last.is_some_and(|page| stands_in(c, &page) > MOST_LUACDS);
             tally.count_if(!there, "fault.17-luacds.not-last-page");
+        }
+    }
+}
+
+/// How a list comes to more ACEs than there is room for.
+fn one_ace_more(c: &Coordinator, parts: &[&[u8]], tally: &mut Tally) {
+    let pages: Vec<Page> = parts.iter().filter_map(|part| read(part).ok()).collect();
+    let new = |page: &&Page| page.granted().is_some_and(|id| !c.acl.contains_key(id));
+    for page in pages.iter().filter(new) {
+        match page {
+            Page::Grant {
+                descriptors: [], ..
+            } => tally.count("fault.33-aces.beside-removal-of-nothing"),
+            Page::GrantAll { .. } => tally.count("fault.33-aces.by-everything"),
+            _ => {}
         }
     }
 }
@@ -203,6 +222,11 @@ fn header(call: &Call, list: &[u8], pages: &[Page], tally: &mut Tally) {
     tally.count_if(again, "disable.on-again");
     let new_key = c.enabled && call.after.key != c.key;
     tally.count_if(new_key, "list.new-key");
+    tally.count_if(new_key && call.after.key == 0, "list.new-key.zero");
+    let full = c.acl.len() == 32 && call.after.acl.len() == 32;
+    let replaces = |page: &Page| page.granted().is_some_and(|id| c.acl.contains_key(id));
+    let replaces = full && pages.iter().any(replaces);
+    tally.count_if(replaces, "list.32-aces-replaced");
     if list[21] & 0x80 != 0 {
         let enrolled = |e: &Enrolment| matches!(e, Enrolment::Enrolled(_));
         let any = c.enrolments.iter().any(enrolled);
@@ -356,18 +380,8 @@ fn enrolments(c: &Coordinator, page: &Page, next: &Coordinator, tally: &mut Tall
         Page::GrantAll { id, keeps } => (id, *keeps, false),
         _ => return,
     };
-    let access_id = match id {
-        Identifier::AccessId(access_id) => access_id,
-        Identifier::TransportId(bytes) => {
-            let what = match (c.acl.contains_key(id), removal) {
-                _ if matches!(page, Page::GrantAll { .. }) => "everything",
-                (false, false) => "adds",
-                (true, false) => "replaces",
-                (_, true) => "removes",
-            };
-            let alike = !keeps && enrolled_alike(c, bytes);
-            return tally.count_if(alike, format!("list.transportid-alike.{what}"));
-        }
+    let Identifier::AccessId(access_id) = id else {
+        return transportid_alike(c, page, id, tally);
     };
     let equal = c.acl.get(id) == next.acl.get(id);
     for held in &c.enrolments {
@@ -388,10 +402,26 @@ fn enrolments(c: &Coordinator, page: &Page, next: &Coordinator, tally: &mut Tall
     }
 }
 
-/// An enrolment stands under the AccessID that begins as a TransportID does.
-fn enrolled_alike(c: &Coordinator, id: &TransportId) -> bool {
+/// A TransportID's page, while an enrolment stands under the AccessID that
+/// begins as the TransportID does.
+fn transportid_alike(c: &Coordinator, page: &Page, id: &Identifier, tally: &mut Tally) {
+    let Identifier::TransportId(bytes) = id else {
+        return;
+    };
+    let (what, keeps) = match page {
+        Page::GrantAll { keeps, .. } => ("everything", keeps),
+        Page::Grant {
+            keeps,
+            descriptors: [],
+            ..
+        } => ("removes", keeps),
+        Page::Grant { keeps, .. } if c.acl.contains_key(id) => ("replaces", keeps),
+        Page::Grant { keeps, .. } => ("adds", keeps),
+        _ => return,
+    };
     let mut held = c.enrolments.iter().filter_map(|e| e.access_id());
-    held.any(|access_id| access_id[..] == id[..access_id.len()])
+    let alike = held.any(|access_id| access_id[..] == bytes[..access_id.len()]);
+    tally.count_if(alike && !keeps, format!("list.transportid-alike.{what}"));
 }
 
 /// An ACE of the other type whose identifier has the same bytes.

@@ -200,17 +200,21 @@ fn count_command(
         lent,
     };
     calls::any(&call, tally);
-    match action {
-        Action::ReportAcl => questions::report(&call, tally),
-        Action::ManageAcl => lists::manage(&call, tally),
-        Action::Enroll => calls::enroll(&call, tally),
-        Action::Cancel => calls::cancel(&call, tally),
-        Action::Disable => calls::disable(&call, tally),
-        Action::RequestProxyToken => proxies::request(&call, tally),
-        Action::RevokeProxyToken => proxies::revoke(&call, tally),
-        Action::RevokeAllProxyTokens => proxies::revoke_all(&call, tally),
-        Action::AssignProxyLun => proxies::assign(&call, tally),
-        Action::ReleaseProxyLun => proxies::release(&call, tally),
+    count_action(&call, tally);
+}
+
+fn count_action(call: &Call, tally: &mut Tally) {
+    match call.action {
+        Action::ReportAcl => questions::report(call, tally),
+        Action::ManageAcl => lists::manage(call, tally),
+        Action::Enroll => calls::enroll(call, tally),
+        Action::Cancel => calls::cancel(call, tally),
+        Action::Disable => calls::disable(call, tally),
+        Action::RequestProxyToken => proxies::request(call, tally),
+        Action::RevokeProxyToken => proxies::revoke(call, tally),
+        Action::RevokeAllProxyTokens => proxies::revoke_all(call, tally),
+        Action::AssignProxyLun => proxies::assign(call, tally),
+        Action::ReleaseProxyLun => proxies::release(call, tally),
     }
 }
 

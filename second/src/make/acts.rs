@@ -70,10 +70,7 @@ impl Maker {
             0 => Some(0),
             1 => self.rng.pick(&live),
             2..=4 => self.rng.pick(&self.issued),
-            5 => self
-                .rng
-                .pick(&live)
-                .map(|number| number ^ 1 << 32 << self.rng.below(32)),
+            5 => self.alike_number(&live),
             _ => None,
         };
         let number = number.unwrap_or(self.new_number());
@@ -107,6 +104,7 @@ impl Maker {
             0 => Some(0),
             1 => self.rng.pick(&self.issued),
             2 | 3 => self.rng.pick(&live),
+            4 => self.alike_number(&own),
             _ => self.rng.pick(&own),
         };
         let token = token.unwrap_or(self.rng.next());
@@ -138,7 +136,7 @@ impl Maker {
     pub(super) fn assign(&mut self, initiator: usize) {
         let live: Vec<u64> = self.c.tokens.keys().copied().collect();
         let token = match self.rng.below(10) {
-            0 => Some(self.rng.next()),
+            0 => self.alike_number(&live),
             1 => self.rng.pick(&self.issued),
             _ => self.rng.pick(&live),
         };
@@ -197,12 +195,8 @@ impl Maker {
 
     pub(super) fn disable_with(&mut self, initiator: usize, right: bool) {
         let mut list = [0; 12];
-        let wrong = 1 << self.rng.below(64);
-        let key = if right {
-            self.c.key
-        } else {
-            self.c.key ^ wrong
-        };
+        let wrong = self.wrong_key();
+        let key = if right { self.c.key } else { wrong };
         list[..4].fill(self.rng.byte());
         list[4..].copy_from_slice(&key.to_be_bytes());
         self.out(initiator, 1, &list);
@@ -232,12 +226,12 @@ impl Maker {
             2 => delivered + self.rng.below(40),
             _ => delivered,
         };
-        let wrong = if self.rng.once_in(9) {
-            1 << self.rng.below(64)
+        let key = if self.rng.once_in(9) {
+            self.wrong_key()
         } else {
-            0
+            self.c.key
         };
-        let mut cdb = wire::cdb(0x86, 0, self.c.key ^ wrong, allocation);
+        let mut cdb = wire::cdb(0x86, 0, key, allocation);
         self.add_noise(&mut cdb);
         self.command(initiator, &cdb, &[], 0, buffer);
     }

@@ -26,9 +26,14 @@ impl Maker {
         let named = self.transport(initiator);
         let other_unit = self.luacd(two, 2);
         let other_lun = self.luacd(one.wrapping_add(100), 1);
-        self.send_pages(vec![grant_page(named, true, &[other_unit])]);
+        // A list that fails does not flush, either.
+        let mut flushing = self.right_header();
+        flushing.flush = true;
+        flushing.pages = vec![grant_page(named, true, &[other_unit])];
+        self.send(&flushing);
         self.send_pages(vec![grant_page(named, true, &[other_lun])]);
         let access = self.access(0);
+        self.route_home(initiator, 1);
         let other_unit = self.luacd(one, 2);
         self.send_pages(vec![grant_page(access, true, &[other_unit])]);
         // Without NOCNCL the enrolment ends, so that nothing clashes.

@@ -8,8 +8,9 @@ use super::Maker;
 impl Maker {
     /// A header that passes, with no pages yet.
     pub(super) fn right_header(&mut self) -> Sketch {
-        let new_key = match self.rng.below(4) {
-            0 => self.rng.next(),
+        let new_key = match self.rng.below(12) {
+            0..=2 => self.rng.next(),
+            3 => 0,
             _ => self.c.key,
         };
         Sketch {
@@ -148,7 +149,7 @@ impl Maker {
         (0..count)
             .filter_map(|_| match self.rng.below(6) {
                 0 => Some(0),
-                1 => Some(self.rng.next()),
+                1 => self.alike_number(&live),
                 2 => self.rng.pick(&self.issued),
                 _ => self.rng.pick(&live),
             })
@@ -233,7 +234,7 @@ impl Maker {
     fn spoil(&mut self, sketch: &mut Sketch) {
         match self.rng.below(12) {
             0 | 1 => self.spoil_end(sketch),
-            2 => sketch.key ^= 1 << self.rng.below(64),
+            2 => sketch.key = self.wrong_key(),
             3 => self.spoil_generation(sketch),
             4 => self.spoil_head(sketch),
             5 => self.spoil_code(sketch),

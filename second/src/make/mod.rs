@@ -91,6 +91,8 @@ pub struct Maker {
     shift: u8,
     /// Token numbers issued in this run, live or not.
     issued: Vec<u64>,
+    /// The key before the one that is right now.
+    old_key: u64,
 }
 
 impl Maker {
@@ -102,6 +104,7 @@ impl Maker {
             ids: Vec::new(),
             shift: 0,
             issued: Vec::new(),
+            old_key: 0,
         }
     }
 
@@ -157,7 +160,12 @@ impl Maker {
             bytes,
         };
         let statement = read_line(&line).ok().flatten()?;
-        Some(put_to(&mut self.c, &statement))
+        let key = self.c.key;
+        let answer = put_to(&mut self.c, &statement);
+        if self.c.key != key {
+            self.old_key = key;
+        }
+        Some(answer)
     }
 
     /// Now and then the same statement in other clothes.
@@ -263,11 +271,27 @@ impl Maker {
         good | 1 << (8 * (7 - byte) + self.rng.below(8))
     }
 
+    /// A key that is not the right one: the last one, or one bit off.
+    fn wrong_key(&mut self) -> u64 {
+        if self.old_key != self.c.key && self.rng.once_in(3) {
+            return self.old_key;
+        }
+        self.c.key ^ 1 << self.rng.below(64)
+    }
+
+    /// A number that is alike to one of these in its last 32 bits.
+    fn alike_number(&mut self, numbers: &[u64]) -> Option<u64> {
+        let bit = 1 << 32 << self.rng.below(32);
+        self.rng.pick(numbers).map(|number| number ^ bit)
+    }
+
     /// A number that no token has had in this run.
     fn new_number(&mut self) -> u64 {
-        let number = match self.rng.below(3) {
-            0 => self.rng.next(),
-            1 => 0xffff_ffff_ffff_0000 | self.rng.next() >> 48,
+        let number = match self.rng.below(10) {
+            0..=2 => self.rng.next(),
+            3..=5 => 0xffff_ffff_ffff_0000 | self.rng.next() >> 48,
+            6 => 1 + self.rng.next() % 4,
+            7 => self.rng.next() << 32,
             _ => 1 + self.rng.next() % 4096,
         };
         if number == 0 || self.issued.contains(&number) {

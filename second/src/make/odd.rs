@@ -18,7 +18,7 @@ const OUT: [(u8, usize); 8] = [
 ];
 
 /// Lines that are no statements, two to skip, and two with numbers of many digits.
-const LINES: [&str; 40] = [
+const LINES: [&str; 44] = [
     "",
     "# a comment between statements",
     "   ",
@@ -57,6 +57,10 @@ const LINES: [&str; 40] = [
     "reach 99999999999999999999999999",
     "reach -",
     "reach 8 8",
+    "reach\t64",
+    "reach 64\r\r",
+    " # no comment",
+    "reach 64\u{e9}",
     "link 00000000000000000000000000000000000000000001",
     "reach 0000000000000000000000000000000000000000064",
 ];

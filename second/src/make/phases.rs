@@ -116,7 +116,7 @@ impl Maker {
     fn make_wrong(&mut self, sketch: &mut Sketch, wrong: Wrong, foreign: &mut Vec<Named>) {
         match wrong {
             Wrong::Cut => self.spoil_end(sketch),
-            Wrong::Key => sketch.key ^= 1 << self.rng.below(64),
+            Wrong::Key => sketch.key = self.wrong_key(),
             Wrong::Generation => self.spoil_generation(sketch),
             Wrong::Page => match self.rng.below(3) {
                 0 => self.spoil_head(sketch),

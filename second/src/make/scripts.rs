@@ -1,7 +1,8 @@
 //! Sequences aimed at deep states that single statements reach rarely.
 
-use super::wire::{grant_all_page, grant_page, lun};
+use super::wire::{grant_all_page, grant_page, lun, Named};
 use super::Maker;
+use crate::state::TransportId;
 
 impl Maker {
     pub(super) fn any_script(&mut self) {
@@ -103,6 +104,10 @@ impl Maker {
         let other = self.ids[self.rng.below(self.ids.len())];
         self.enroll_under(initiator, other);
         self.enroll_under(initiator, [0x33; 16]);
+        if let Some(mut near) = self.c.enrolments[initiator].access_id() {
+            near[[0, 7, 8, 15][self.rng.below(4)]] ^= 1 << self.rng.below(8);
+            self.enroll_under(initiator, near);
+        }
         self.enroll(initiator);
         if self.rng.once_in(2) {
             let mut sketch = self.right_header();
@@ -189,10 +194,11 @@ impl Maker {
         if self.units() == 0 || self.initiators() == 0 {
             return self.act();
         }
-        match self.rng.below(5) {
+        match self.rng.below(6) {
             0 if self.units() >= 17 => self.luacds_full(),
             1 if self.units() >= 17 => self.everything_of_many(),
-            2 => self.aces_full(),
+            2 if self.units() >= 17 => self.long_report(),
+            3 => self.aces_full(),
             _ => self.act(),
         }
     }
@@ -229,6 +235,17 @@ impl Maker {
         self.report_cut(initiator, 40);
     }
 
+    /// A report of over 4096 bytes, of which the head is shown.
+    fn long_report(&mut self) {
+        let luacds: Vec<[u8; 20]> = (0..16).map(|unit| self.at_home(unit)).collect();
+        let ids: Vec<_> = (0..12).map(|n| self.transport_id(150 + n)).collect();
+        let grants = ids.iter().map(|id| grant_page((1, *id), false, &luacds));
+        self.send_pages(grants.collect());
+        self.report_cut(0, 40);
+        let removals = ids.iter().map(|id| grant_page((1, *id), false, &[]));
+        self.send_pages(removals.collect());
+    }
+
     /// 32 ACEs, a 33rd, and lists that pass 32 on the way alone.
     fn aces_full(&mut self) {
         let luacd = self.at_home(0);
@@ -239,16 +256,27 @@ impl Maker {
             fill.pages.push(grant_page((1, *id), false, &[luacd]));
         }
         self.send(&fill);
-        let one_more = grant_page((1, new[room]), false, &[luacd]);
-        self.send_pages(vec![one_more.clone()]);
-        if let Some(old) = new.first() {
-            let removed = grant_page((1, *old), false, &[]);
-            self.send_pages(vec![one_more, removed]);
-        }
+        self.one_ace_more((1, new[room]), new.first().copied());
         let removals = new.iter().map(|id| grant_page((1, *id), false, &[]));
         let removals = removals.collect();
         let shown = if self.rng.once_in(4) { 2000 } else { 48 };
         self.report_cut(0, shown);
         self.send_pages(removals);
+    }
+
+    /// With 32 ACEs: one more in several ways, and lists that need no more room.
+    fn one_ace_more(&mut self, named: Named, old: Option<TransportId>) {
+        let luacd = self.at_home(0);
+        let one_more = grant_page(named, false, &[luacd]);
+        let nothing = grant_page((1, self.transport_id(250)), false, &[]);
+        self.send_pages(vec![one_more.clone()]);
+        self.send_pages(vec![one_more.clone(), nothing]);
+        self.send_pages(vec![grant_all_page(named, false)]);
+        if let Some(old) = old {
+            let replaced = grant_page((1, old), false, &[luacd, luacd]);
+            self.send_pages(vec![replaced]);
+            let removed = grant_page((1, old), false, &[]);
+            self.send_pages(vec![one_more, removed]);
+        }
     }
 }
