@@ -9,7 +9,8 @@ const USAGE: &str = "\
 second answer < JOURNAL              the answer lines
 second make SEED RUNS [THEME]        a journal of RUNS setups, each with its run
 second cover [--strict] [JOURNAL ..] what journals cover (standard input, if none is named);
-                                     --strict fails if an item is missing
+                                     --strict fails if an item is missing, or if of several
+                                     journals one alone has it
 ";
 
 fn main() -> ExitCode {
@@ -33,8 +34,8 @@ fn run(words: &[&str]) -> io::Result<ExitCode> {
             None => return Ok(usage()),
         },
         ["cover", "--strict", files @ ..] => {
-            let missing = cover::cover(journals(files)?, &mut output)?;
-            return Ok(ExitCode::from(u8::from(missing > 0)));
+            let whole = cover::cover(journals(files)?, &mut output)?;
+            return Ok(ExitCode::from(u8::from(!whole)));
         }
         ["cover", files @ ..] => {
             cover::cover(journals(files)?, &mut output)?;

@@ -20,6 +20,8 @@ use std::io::{self, BufRead, Write};
 /// a slip in a name shows.
 pub struct Tally {
     counts: BTreeMap<String, u64>,
+    /// How many journals have an item.
+    journals: BTreeMap<String, u64>,
     unlisted: BTreeSet<String>,
     memory: Memory,
 }
@@ -45,6 +47,7 @@ impl Tally {
         let counts = items::all().into_iter().map(|name| (name, 0)).collect();
         Tally {
             counts,
+            journals: BTreeMap::new(),
             unlisted: BTreeSet::new(),
             memory: Memory::default(),
         }
@@ -69,6 +72,14 @@ impl Tally {
     fn missing(&self) -> u64 {
         self.counts.values().filter(|count| **count == 0).count() as u64
     }
+
+    /// Items that one journal alone has: a change to it could lose them unseen.
+    /// Only the last of several journals put together can lack its last LF.
+    fn alone(&self) -> Vec<&String> {
+        let once = self.journals.iter().filter(|(_, journals)| **journals == 1);
+        let names = once.map(|(name, _)| name);
+        names.filter(|name| *name != "line.no-lf").collect()
+    }
 }
 
 /// A command that got past refusals 3 to 5 and has a supported service action.
@@ -82,12 +93,20 @@ pub struct Call<'a> {
     lent: &'a [u8],
 }
 
-/// Counts the items of journals and prints them; how many are missing. Each
-/// journal begins with a coordinator of its own.
-pub fn cover(journals: Vec<Box<dyn BufRead + '_>>, output: &mut impl Write) -> io::Result<u64> {
+/// Counts the items of journals and prints them; whether each item is there,
+/// and in two journals at least where there are several. Each journal begins with
+/// a coordinator of its own.
+pub fn cover(journals: Vec<Box<dyn BufRead + '_>>, output: &mut impl Write) -> io::Result<bool> {
     let mut tally = Tally::new();
+    let several = journals.len() > 1;
     for mut journal in journals {
+        let before = tally.counts.clone();
         count_journal(&mut journal, &mut tally)?;
+        for (name, count) in &tally.counts {
+            if before.get(name) != Some(count) {
+                *tally.journals.entry(name.clone()).or_default() += 1;
+            }
+        }
     }
     for name in items::all() {
         let count = tally.counts.get(&name).copied().unwrap_or(0);
@@ -96,9 +115,13 @@ pub fn cover(journals: Vec<Box<dyn BufRead + '_>>, output: &mut impl Write) -> i
     for name in &tally.unlisted {
         writeln!(output, "unlisted {name}")?;
     }
+    let alone = if several { tally.alone() } else { Vec::new() };
+    for name in &alone {
+        writeln!(output, "alone {name}")?;
+    }
     writeln!(output, "missing {}", tally.missing())?;
     output.flush()?;
-    Ok(tally.missing())
+    Ok(tally.missing() == 0 && alone.is_empty())
 }
 
 /// The names counted that no item has: always none.

@@ -163,7 +163,9 @@ impl Maker {
             let luacds = self.some_luacds();
             pages.push(grant_page(self.transport(initiator), false, &luacds));
         }
-        if self.units() > 0 && self.rng.once_in(2) {
+        if self.units() == 0 {
+            pages.push(grant_all_page(self.access(0), false));
+        } else if self.rng.once_in(2) {
             let unit = self.rng.below(self.units());
             let (named, luacd) = (self.access(0), self.at_home(unit));
             pages.push(grant_page(named, false, &[luacd]));

@@ -267,7 +267,7 @@ impl Maker {
     /// The LUN of an nn with one bit set that must not be.
     fn malformed(&mut self, nn: u8) -> u64 {
         let good = wire::lun(nn);
-        let byte = [0, 2, 3, 4, 5, 6, 7][self.rng.below(7)];
+        let byte = [0, 0, 2, 3, 4, 5, 6, 7][self.rng.below(8)];
         good | 1 << (8 * (7 - byte) + self.rng.below(8))
     }
 

@@ -9,11 +9,12 @@ impl Maker {
             return self.act();
         }
         let initiator = self.any_initiator();
-        match self.rng.below(9) {
+        match self.rng.below(10) {
             0 => self.tokens_full(initiator),
             1 => self.proxies_full(initiator),
             2..=4 => self.revoked_with_proxies(initiator),
             5 => self.token_outlives(initiator),
+            6 => self.one_lun_of_two(initiator),
             _ => {
                 self.lone_t_row(initiator, 0);
                 let token = self.token_for(initiator, 0);
@@ -105,6 +106,21 @@ impl Maker {
         self.reach();
     }
 
+    /// One LUN as proxy LUN of two initiators: each has its own.
+    fn one_lun_of_two(&mut self, initiator: usize) {
+        let other = (initiator + 1) % self.initiators();
+        self.lone_t_row(initiator, 0);
+        let token = self.token_for(initiator, 0);
+        let free = lun(self.free_lun(initiator));
+        self.assign_at(initiator, token, free);
+        self.assign_at(other, token, free);
+        self.out(other, 0x0a, &free.to_be_bytes());
+        self.say(&format!("route {initiator} {free:016x}"));
+        self.say(&format!("route {other} {free:016x}"));
+        self.out(other, 0x0a, &free.to_be_bytes());
+        self.reach();
+    }
+
     /// A token outlives its requester's own access, by whatever LUN it was got.
     fn token_outlives(&mut self, initiator: usize) {
         self.lone_t_row(initiator, 0);
@@ -118,6 +134,7 @@ impl Maker {
         let moved = [self.luacd(at, 1), self.luacd(at.wrapping_add(9), 0)];
         self.send_pages(vec![grant_page(named, false, &moved)]);
         self.say(&format!("route {user} {free:016x}"));
+        self.say("reach 4096");
         let second = self.new_number();
         self.request_with(initiator, lun(at.wrapping_add(9)), second);
         self.send_pages(vec![grant_page(named, false, &[])]);
