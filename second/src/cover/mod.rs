@@ -175,8 +175,9 @@ fn count_statement(
 ) {
     match (statement, answer) {
         (Statement::Setup { .. }, Answer::Setup(result)) => {
+            // What a setup forgets has not ended in the sense of the items.
             tally.memory = Memory::default();
-            questions::setup(before, result, after, tally);
+            return questions::setup(before, result, after, tally);
         }
         (Statement::Command { call, .. }, Answer::Command { outcome, lent }) => {
             count_command(before, call, *outcome, lent, after, tally);
@@ -255,9 +256,6 @@ fn remember(before: &Coordinator, after: &Coordinator, tally: &mut Tally) {
     memory.tokens_were_full |= after.tokens.len() == 32;
     memory.proxies_were_full |= after.proxy_luns.len() == 32;
     memory.been_on |= after.enabled;
-    if before.transport_ids != after.transport_ids {
-        return;
-    }
     tally.count_if(
         before.acl.len() < 32 && after.acl.len() == 32,
         "size.32-aces",

@@ -160,7 +160,7 @@ impl Maker {
         descriptor(lun(home), lun(default.wrapping_add(0x80)))
     }
 
-    /// A page of 17 LUACDs that stand, and one more of which no unit is found.
+    /// A page of 17 LUACDs that stand, with a wrong one among them if there is one.
     fn many_luacds(
         &mut self,
         sketch: &mut Sketch,
