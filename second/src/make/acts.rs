@@ -248,6 +248,16 @@ impl Maker {
         self.say(&format!("reach {buffer}"));
     }
 
+    /// All that can be seen of the tables, or a fault in them may go unseen.
+    pub(super) fn look(&mut self) {
+        self.say("reach 8192");
+        let whole = report_acl(&self.c).len();
+        if whole <= 1000 && self.initiators() > 0 {
+            let cdb = wire::cdb(0x86, 0, self.c.key, whole);
+            self.command(0, &cdb, &[], 0, whole);
+        }
+    }
+
     pub(super) fn route(&mut self, initiator: usize) {
         let grounds = [Ground::T, Ground::A, Ground::W, Ground::X, Ground::O];
         let known = self.luns_on(initiator, &grounds);

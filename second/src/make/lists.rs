@@ -349,7 +349,7 @@ impl Maker {
     }
 
     /// Phases 3 to 5: one descriptor of a page, overruled or not.
-    fn spoil_luacd(&mut self, sketch: &mut Sketch) {
+    pub(super) fn spoil_luacd(&mut self, sketch: &mut Sketch) {
         let mut luacds = self.some_luacds();
         let unit = self.rng.below(self.units());
         let good = self.at_home(unit);

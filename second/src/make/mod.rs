@@ -120,7 +120,11 @@ impl Maker {
         let steps = most / 4 + self.rng.below(most);
         for _ in 0..steps {
             self.step(theme);
+            if self.rng.once_in(16) {
+                self.look();
+            }
         }
+        self.look();
     }
 
     fn step(&mut self, theme: usize) {

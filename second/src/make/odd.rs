@@ -186,7 +186,7 @@ impl Maker {
     }
 
     fn while_off(&mut self, initiator: usize) {
-        match self.rng.below(21) {
+        match self.rng.below(22) {
             0 => self.enroll(initiator),
             1 => self.out(initiator, 3, &[]),
             2 => self.request(initiator),
@@ -203,6 +203,11 @@ impl Maker {
             15 => self.wrong_service_action(),
             16 => self.manage(),
             17 => self.first_list_too_long(),
+            18 => {
+                let mut sketch = self.right_header();
+                self.spoil_luacd(&mut sketch);
+                self.send(&sketch);
+            }
             _ => self.length_zero(),
         }
     }

@@ -88,6 +88,11 @@ impl Maker {
             self.assign_at(user, either, free);
         }
         let at = lun(self.home(0));
+        if self.rng.once_in(2) {
+            let malformed = self.malformed(self.home(0));
+            self.out(initiator, 8, &malformed.to_be_bytes());
+            self.say("reach 4096");
+        }
         match self.rng.below(5) {
             0 => self.out(initiator, 8, &at.to_be_bytes()),
             1 => self.send_pages(vec![tokens_page(&[token, 0, token])]),
