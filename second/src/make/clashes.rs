@@ -22,22 +22,28 @@ impl Maker {
 
     fn clash_of_t_and_a(&mut self, initiator: usize) {
         self.enrolled_beside_t(initiator);
+        let token = self.token_for(initiator, 1);
+        let free = lun(self.free_lun(initiator));
+        self.assign_at(initiator, token, free);
         let (one, two) = (self.home(0), self.home(1));
         let named = self.transport(initiator);
         let other_unit = self.luacd(two, 2);
         let other_lun = self.luacd(one.wrapping_add(100), 1);
-        // A list that fails does not flush, either.
+        // A list that fails neither flushes nor revokes.
         let mut flushing = self.right_header();
         flushing.flush = true;
-        flushing.pages = vec![grant_page(named, true, &[other_unit])];
+        flushing.pages = vec![grant_page(named, true, &[other_unit]), all_tokens_page()];
         self.send(&flushing);
         self.send_pages(vec![grant_page(named, true, &[other_lun])]);
         let access = self.access(0);
         self.route_home(initiator, 1);
+        self.say(&format!("route {initiator} {free:016x}"));
         let other_unit = self.luacd(one, 2);
         self.send_pages(vec![grant_page(access, true, &[other_unit])]);
         // Without NOCNCL the enrolment ends, so that nothing clashes.
         self.send_pages(vec![grant_page(access, false, &[other_unit])]);
+        self.send_pages(vec![grant_page(access, true, &[])]);
+        self.say(&format!("route {initiator} {free:016x}"));
     }
 
     /// T has unit 0, and A (or W) unit 1, each at its home LUN.

@@ -135,9 +135,15 @@ impl Maker {
         let luacd = self.at_home(0);
         self.out(initiator, 3, &[]);
         self.send_pages(vec![
+            grant_page((1, own), false, &[luacd]),
+            grant_page((0, own), false, &[]),
+        ]);
+        self.enroll_under(initiator, id);
+        self.send_pages(vec![
             grant_page((1, own), false, &[]),
             grant_page((0, own), false, &[luacd]),
         ]);
+        self.route_home(initiator, 0);
         self.enroll_under(initiator, id);
         if self.rng.once_in(2) {
             self.link(initiator);

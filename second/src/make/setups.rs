@@ -55,6 +55,11 @@ impl Maker {
         let mut id = [0; 24];
         id[0] = self.rng.below(2) as u8;
         id[8..16].copy_from_slice(&(self.rng.next() & 0xf0f0).to_be_bytes());
+        if self.rng.once_in(5) {
+            // As long as an AccessID, the rest zero.
+            id[1] = n as u8 + 1;
+            return id;
+        }
         id[22] = self.rng.byte();
         id[23] = n as u8;
         id

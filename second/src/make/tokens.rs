@@ -119,11 +119,13 @@ impl Maker {
         let free = lun(self.free_lun(initiator));
         self.assign_at(initiator, token, free);
         self.assign_at(other, token, free);
+        let second = lun(self.free_lun(other));
+        self.assign_at(other, token, second);
         self.out(other, 0x0a, &free.to_be_bytes());
+        self.say("reach 4096");
         self.say(&format!("route {initiator} {free:016x}"));
         self.say(&format!("route {other} {free:016x}"));
         self.out(other, 0x0a, &free.to_be_bytes());
-        self.reach();
     }
 
     /// A token outlives its requester's own access, by whatever LUN it was got.
