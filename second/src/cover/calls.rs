@@ -65,10 +65,10 @@ pub fn any(call: &Call, tally: &mut Tally) {
             tally.count(format!("code.{name}.{on}.{}", names::code(fault)));
             tally.count(format!("fault.{}", names::fault(fault)));
             let another = matches!(call.command.list.len(), 8 | 12 | 16 | 24);
-            tally.count_if(
-                another && fault == Fault::ListLength,
-                "fault.list-length.of-another",
-            );
+            let wrong = fault == Fault::ListLength;
+            tally.count_if(another && wrong, "fault.list-length.of-another");
+            let header_cut = call.command.list.len() == 27;
+            tally.count_if(header_cut && wrong, "fault.list-length.27");
         }
         Outcome::Refused(number) => tally.count(format!("refused.{number}.{name}")),
     }

@@ -122,6 +122,7 @@ const GROUPS: &[(&str, &[&str])] = &[
             "page-body-cut",
             "list-length",
             "list-length.of-another",
+            "list-length.27",
             "wrong-key",
             "generation",
             "page-code",

@@ -153,7 +153,11 @@ impl Maker {
         let initiator = self.any_initiator();
         let (action, right) = OUT[self.rng.below(8)];
         let length = match (action, self.rng.below(4)) {
-            (0x00, _) => 1 + self.rng.below(27),
+            // Often the header but for its last byte.
+            (0x00, _) => match self.rng.below(27) {
+                n if n % 3 == 0 => 27,
+                n => n,
+            },
             (_, 0) => right + 1,
             (_, 1) if right > 1 => right - 1,
             _ => [1, 4, 28, 40, 8, 12, 16, 24][self.rng.below(8)],
