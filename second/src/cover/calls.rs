@@ -1,7 +1,7 @@
 //! Commands in general; enrolments and DISABLE.
 
 use super::{names, Call, Tally};
-use crate::coordinator::{action_of, initiator, Action, Command, Outcome};
+use crate::coordinator::{action_of, initiator, list_length, Action, Command, Outcome};
 use crate::fault::Fault;
 use crate::ground::Ground;
 use crate::pages::leading;
@@ -15,6 +15,8 @@ pub fn early(c: &Coordinator, command: &Command, outcome: &Outcome, tally: &mut 
         Outcome::Refused(3) => {
             tally.count("refused.3.command");
             tally.count_if(short, "refused.3.before-4");
+            let miscounted = !short && command.list.len() as u64 != list_length(&command.cdb);
+            tally.count_if(miscounted, "refused.3.before-5");
         }
         Outcome::Refused(4) => {
             tally.count("refused.4");

@@ -54,6 +54,7 @@ const GROUPS: &[(&str, &[&str])] = &[
             "3.link",
             "3.route",
             "3.before-4",
+            "3.before-5",
             "4",
             "4.before-5",
             "5.out",
