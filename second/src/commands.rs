@@ -3,8 +3,9 @@
 
 use crate::bytes::{lun_number, number};
 use crate::fault::Fault;
+use crate::ground::Ground;
 use crate::pages::leading;
-use crate::rows::{clash_of, rows_at, Ground};
+use crate::rows::{clash_of, rows_at};
 use crate::state::{
     AccessId, Coordinator, Enrolment, Identifier, Token, MOST_PROXY_LUNS, MOST_TOKENS,
 };

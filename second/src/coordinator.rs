@@ -127,7 +127,7 @@ pub fn initiator(c: &Coordinator, number: u64) -> Option<usize> {
 }
 
 /// Bytes 10-13 of OUT; no list may come with any other operation code.
-fn list_length(cdb: &[u8]) -> u64 {
+pub fn list_length(cdb: &[u8]) -> u64 {
     if cdb[0] == 0x87 {
         number(&cdb[10..14])
     } else {

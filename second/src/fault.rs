@@ -3,14 +3,7 @@
 //! A fault is finer than a code of the paper's table: several faults share one
 //! code. The answers need the code alone; the cover needs to know the fault.
 
-use crate::rows::Ground;
-
-/// The two ways in which two rows of one initiator clash.
-#[derive(Clone, Copy, PartialEq, Eq, Debug)]
-pub enum Clash {
-    OneLunTwoUnits,
-    OneUnitTwoLuns,
-}
+use crate::ground::{Clash, Ground};
 
 #[derive(Clone, Copy, PartialEq, Eq, Debug)]
 pub enum Fault {

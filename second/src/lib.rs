@@ -2,16 +2,19 @@
 //! coordinator, written from the paper alone, so that the proved program has
 //! a judge that shares no line with it.
 //!
-//! Reading order: `state` (the tables), `rows` (what an initiator reaches),
-//! `manage` and `commands` (what changes the tables), `coordinator` (the order
-//! of tests), `report` (the bytes), `journal` (the text), then `make` and
-//! `cover`, which only serve the tests.
+//! Reading order, each module taking names from those before it alone: `bytes`
+//! and `lines` (what everything is written in), `state` and `setup` (the tables),
+//! `ground` and `fault` (words for what stands and what fails), `rows` (what an
+//! initiator reaches), `pages`, `manage` and `commands` (what changes the tables),
+//! `report` (the bytes), `coordinator` (the order of tests), `journal` (the text),
+//! then `make` and `cover`, which only serve the tests.
 
 pub mod bytes;
 pub mod commands;
 pub mod coordinator;
 pub mod cover;
 pub mod fault;
+pub mod ground;
 pub mod journal;
 pub mod lines;
 pub mod make;

@@ -1,13 +1,16 @@
 //! `second answer`, `second make` and `second cover`.
 
 use second::{cover, journal, make};
-use std::io::{self, BufReader, BufWriter};
+use std::fs::File;
+use std::io::{self, BufRead, BufReader, BufWriter};
 use std::process::ExitCode;
 
 const USAGE: &str = "\
 second answer < JOURNAL              the answer lines
 second make SEED RUNS [THEME]        a journal of RUNS setups, each with its run
-second cover [--strict] < JOURNAL    what a journal covers; --strict fails if an item is missing
+second cover [--strict] [JOURNAL ..] what journals cover (standard input, if none is named);
+                                     --strict fails if an item is missing, or if of several
+                                     journals one alone has it
 ";
 
 fn main() -> ExitCode {
@@ -23,25 +26,35 @@ fn main() -> ExitCode {
 }
 
 fn run(words: &[&str]) -> io::Result<ExitCode> {
-    let mut input = BufReader::new(io::stdin().lock());
     let mut output = BufWriter::new(io::stdout().lock());
     match words {
-        ["answer"] => journal::answer(&mut input, &mut output)?,
+        ["answer"] => journal::answer(&mut BufReader::new(io::stdin().lock()), &mut output)?,
         ["make", rest @ ..] => match make::Order::read(rest) {
             Some(order) => make::make(&order, &mut output)?,
             None => return Ok(usage()),
         },
-        ["cover"] => {
-            cover::cover(&mut input, &mut output)?;
+        ["cover", "--strict", files @ ..] => {
+            let whole = cover::cover(journals(files)?, &mut output)?;
+            return Ok(ExitCode::from(u8::from(!whole)));
         }
-        ["cover", "--strict"] => {
-            if cover::cover(&mut input, &mut output)? > 0 {
-                return Ok(ExitCode::FAILURE);
-            }
+        ["cover", files @ ..] => {
+            cover::cover(journals(files)?, &mut output)?;
         }
         _ => return Ok(usage()),
     }
     Ok(ExitCode::SUCCESS)
+}
+
+/// The named journals, or the one on standard input.
+fn journals(files: &[&str]) -> io::Result<Vec<Box<dyn BufRead>>> {
+    if files.is_empty() {
+        return Ok(vec![Box::new(BufReader::new(io::stdin()))]);
+    }
+    let mut journals: Vec<Box<dyn BufRead>> = Vec::new();
+    for file in files {
+        journals.push(Box::new(BufReader::new(File::open(file)?)));
+    }
+    Ok(journals)
 }
 
 fn usage() -> ExitCode {

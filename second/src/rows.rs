@@ -1,30 +1,9 @@
 //! The rows of an initiator, clashes between them, and what a LUN opens.
 
 use crate::bytes::lun_number;
-use crate::fault::{Clash, Fault};
+use crate::fault::Fault;
+use crate::ground::{Clash, Ground};
 use crate::state::{Ace, Coordinator, Enrolment, Identifier};
-
-/// The ground of a row. The derived order is the order of the ASCII letters.
-#[derive(Clone, Copy, PartialEq, Eq, PartialOrd, Ord, Debug)]
-pub enum Ground {
-    A,
-    O,
-    T,
-    W,
-    X,
-}
-
-impl Ground {
-    pub fn letter(self) -> u8 {
-        match self {
-            Ground::A => b'A',
-            Ground::O => b'O',
-            Ground::T => b'T',
-            Ground::W => b'W',
-            Ground::X => b'X',
-        }
-    }
-}
 
 /// The derived order is the order of the reach list.
 #[derive(Clone, Copy, PartialEq, Eq, PartialOrd, Ord, Debug)]

@@ -317,3 +317,83 @@ fn setups() {
         assert_eq!(answers(line.as_bytes()), [expected], "{words}");
     }
 }
+
+#[test]
+fn a_wrong_lun_comes_before_room() {
+    let mut shelf = Shelf::new(1, &[5]);
+    let grants: Vec<String> = (0..32).map(|n| by_access(n, &[(1, 5)])).collect();
+    shelf.on(&grants);
+    let one_more = by_access(0x40, &[(1, 5)]);
+    let no_unit = by_access(0, &[(1, 6)]);
+    let mut form = by_access(0, &[(1, 5)]);
+    form.replace_range(2 * 43..2 * 44, "01");
+    for wrong in [no_unit, form] {
+        for pages in [[one_more.clone(), wrong.clone()], [wrong, one_more.clone()]] {
+            assert_eq!(shelf.manage(1, &pages), check("2009"));
+        }
+    }
+}
+
+#[test]
+fn a_proxy_lun_opens_beside_other_rows() {
+    let mut shelf = Shelf::new(2, &[5, 6]);
+    shelf.on(&[by_transport(1, &[(1, 6)]), by_access(0xaa, &[(9, 6)])]);
+    shelf.request(1, 1, 3);
+    shelf.assign(0, 3, 9);
+    let unit = "route unit 1";
+    shelf.enroll(0, 0xaa);
+    assert_eq!(shelf.route(0, 9), unit);
+    shelf.tell("link 0");
+    assert_eq!(shelf.route(0, 9), unit);
+    shelf.manage(1, &[by_transport(0, &[(9, 6)]), by_access(0xaa, &[])]);
+    assert_eq!(shelf.rows(), "00090154 00090158 01010154");
+    assert_eq!(shelf.route(0, 9), unit);
+}
+
+#[test]
+fn page_codes_over_03h() {
+    let mut shelf = small();
+    shelf.request(0, 1, 3);
+    for empty in ["04000000", "7f000000", "82000000", "83000000", "ff000000"] {
+        let page = empty.to_string();
+        assert_eq!(shelf.manage(1, &[page]), check("2600"), "page {empty}");
+    }
+    let right = [
+        by_transport(0, &[(2, 0x10)]),
+        grant_all(1, &tid(0), false),
+        revoke(&[3]),
+    ];
+    for page in right {
+        let marked = format!("8{}", &page[1..]);
+        assert_eq!(shelf.manage(1, &[marked]), check("2600"), "page {page}");
+    }
+}
+
+#[test]
+fn a_transportid_page_ends_no_enrolment() {
+    let mut shelf = Shelf::new(2, &[5]);
+    shelf.on(&[grant(0, &tid(1), false, &[(1, 5)])]);
+    assert_eq!(shelf.out(0, 0x02, &tid(0)), GOOD);
+    for page in [
+        by_transport(1, &[(1, 5)]),
+        by_transport(1, &[(2, 5)]),
+        grant_all(1, &tid(1), false),
+        by_transport(1, &[]),
+    ] {
+        assert_eq!(shelf.manage(1, &[page]), GOOD);
+        assert_eq!(shelf.route(0, 1), "route unit 0");
+    }
+}
+
+#[test]
+fn revoke_all_compares_eight_bytes() {
+    let mut shelf = small();
+    shelf.request(0, 1, 3);
+    shelf.assign(1, 3, 4);
+    for wrong in ["0101000000000000", "0001000000000001", "0001800000000000"] {
+        assert_eq!(shelf.out(0, 0x08, wrong), GOOD);
+        assert_eq!(shelf.route(1, 4), "route unit 0", "LUN {wrong}");
+    }
+    assert_eq!(shelf.out(0, 0x08, &lun(1)), GOOD);
+    assert_eq!(shelf.assign(1, 3, 4), check("200a"));
+}

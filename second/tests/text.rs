@@ -18,8 +18,8 @@ fn lines_and_their_ends() {
     assert_eq!(answers(b"reach 8\r\n  reach   8  \nreach 8\r"), [EMPTY; 3]);
 }
 
-#[test]
-fn the_first_wrong_word_is_named() {
+/// Lines that are no statements, each with its message.
+fn wrong_lines() -> Vec<(&'static str, String)> {
     let first = "word 1: expected setup, command, link, route or reach";
     let bytes = |at| format!("word {at}: expected bytes in hex or -");
     let list = "word 4: expected at most 65536 bytes in hex or -";
@@ -27,7 +27,7 @@ fn the_first_wrong_word_is_named() {
     let buffer = |at| format!("word {at}: expected a decimal number up to 65536");
     let digits = |at| format!("word {at}: expected 16 hex digits");
     let end = |at| format!("word {at}: expected the end of the line");
-    let cases: Vec<(&str, String)> = vec![
+    vec![
         (" ", first.into()),
         ("Reach 8", first.into()),
         (" # no comment", first.into()),
@@ -54,8 +54,12 @@ fn the_first_wrong_word_is_named() {
         ("route 0 0001000000000000 0", end(4)),
         ("reach", buffer(2)),
         ("reach 8 8", end(3)),
-    ];
-    for (line, message) in cases {
+    ]
+}
+
+#[test]
+fn the_first_wrong_word_is_named() {
+    for (line, message) in wrong_lines() {
         let journal = format!("\n{line}\n");
         assert_eq!(answers(journal.as_bytes()), [format!("line 2: {message}")]);
     }

@@ -2,9 +2,9 @@
 
 mod common;
 
-use second::cover::unlisted;
+use second::cover::{cover, unlisted};
 use second::make::{make, Order, THEMES};
-use std::io::Cursor;
+use std::io::{BufRead, Cursor};
 
 fn made(words: &[&str]) -> Vec<u8> {
     let order = Order::read(words).expect("a right order");
@@ -39,6 +39,28 @@ fn every_counted_name_is_listed() {
         let names = unlisted(&mut Cursor::new(journal)).expect("memory can be read");
         assert_eq!(names, Vec::<String>::new(), "{theme}");
     }
+}
+
+fn covered(journals: &[&str]) -> (Vec<String>, bool) {
+    let inputs = journals.iter().map(|text| {
+        let input: Box<dyn BufRead> = Box::new(Cursor::new(text.as_bytes().to_vec()));
+        input
+    });
+    let mut output = Vec::new();
+    let whole = cover(inputs.collect(), &mut output).expect("memory can be written");
+    let text = String::from_utf8(output).expect("names are ASCII");
+    (text.lines().map(str::to_string).collect(), whole)
+}
+
+#[test]
+fn each_journal_begins_with_its_own_coordinator() {
+    let setup = format!("setup {} -\n", "00".repeat(24));
+    let (lines, whole) = covered(&[&setup, "link 0\nreach 8\n", "reach 8\n"]);
+    assert!(lines.contains(&"refused.3.link 1".to_string()));
+    assert!(lines.contains(&"alone refused.3.link".to_string()));
+    assert!(lines.contains(&"reach.empty-off 2".to_string()));
+    assert!(!lines.contains(&"alone reach.empty-off".to_string()));
+    assert!(!whole);
 }
 
 /// Bytes of all kinds, and good journals with bytes changed: no panic, and one

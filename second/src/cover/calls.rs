@@ -1,10 +1,11 @@
 //! Commands in general; enrolments and DISABLE.
 
 use super::{names, Call, Tally};
-use crate::coordinator::{action_of, initiator, Action, Command, Outcome};
+use crate::coordinator::{action_of, initiator, list_length, Action, Command, Outcome};
 use crate::fault::Fault;
+use crate::ground::Ground;
 use crate::pages::leading;
-use crate::rows::{rows, Ground};
+use crate::rows::rows;
 use crate::state::{AccessId, Ace, Coordinator, Enrolment, Identifier};
 
 /// Refusals 3 to 5, operation code and service action.
@@ -14,6 +15,8 @@ pub fn early(c: &Coordinator, command: &Command, outcome: &Outcome, tally: &mut 
         Outcome::Refused(3) => {
             tally.count("refused.3.command");
             tally.count_if(short, "refused.3.before-4");
+            let miscounted = !short && command.list.len() as u64 != list_length(&command.cdb);
+            tally.count_if(miscounted, "refused.3.before-5");
         }
         Outcome::Refused(4) => {
             tally.count("refused.4");
@@ -64,10 +67,10 @@ pub fn any(call: &Call, tally: &mut Tally) {
             tally.count(format!("code.{name}.{on}.{}", names::code(fault)));
             tally.count(format!("fault.{}", names::fault(fault)));
             let another = matches!(call.command.list.len(), 8 | 12 | 16 | 24);
-            tally.count_if(
-                another && fault == Fault::ListLength,
-                "fault.list-length.of-another",
-            );
+            let wrong = fault == Fault::ListLength;
+            tally.count_if(another && wrong, "fault.list-length.of-another");
+            let header_cut = call.command.list.len() == 27;
+            tally.count_if(header_cut && wrong, "fault.list-length.27");
         }
         Outcome::Refused(number) => tally.count(format!("refused.{number}.{name}")),
     }

@@ -1,12 +1,13 @@
 //! MANAGE ACL lists: phases, pages, and what happens on the way.
 
-use super::{names, Call, Tally};
+use super::{names, phases, Call, Tally};
 use crate::bytes::{lun_number, number};
 use crate::coordinator::Outcome;
 use crate::fault::Fault;
-use crate::manage::{check_key, check_luns, check_room, end_state, read_all, stands_in, HEADER};
+use crate::ground::Ground;
+use crate::manage::{end_state, read_all, stands_in, HEADER};
 use crate::pages::{cut, luacds, read, Page};
-use crate::rows::{clash_of_any, rows, Ground};
+use crate::rows::{clash_of_any, rows};
 use crate::state::{Ace, Coordinator, Enrolment, Identifier, Luacd, MOST_LUACDS};
 
 pub fn manage(call: &Call, tally: &mut Tally) {
@@ -21,20 +22,8 @@ pub fn manage(call: &Call, tally: &mut Tally) {
     }
 }
 
-fn phase_of(fault: Fault) -> u8 {
-    match fault {
-        Fault::PageHeadCut | Fault::PageBodyCut => 1,
-        Fault::WrongKey => 2,
-        Fault::LunForm | Fault::NoSuchDefaultLun => 4,
-        Fault::TooManyAces | Fault::TooManyLuacds => 5,
-        Fault::Clash(..) => 6,
-        _ => 3,
-    }
-}
-
 fn failed(call: &Call, list: &[u8], fault: Fault, tally: &mut Tally) {
-    let phase = phase_of(fault);
-    tally.count(format!("phase.{phase}"));
+    tally.count(format!("phase.{}", phases::kind_of(fault).0));
     let c = call.before;
     if fault == Fault::Generation {
         tally.count_if(list.len() == HEADER, "fault.generation.page-less");
@@ -42,14 +31,13 @@ fn failed(call: &Call, list: &[u8], fault: Fault, tally: &mut Tally) {
         tally.count_if(old, "disable.old-generation-after");
     }
     if let Fault::Clash(one, other, clash) = fault {
+        tally.count_if(list[21] & 0x80 != 0, "list.flush.not-by-a-clash");
         tally.count(format!("clash.manage.{}", names::clash(one, other, clash)));
         if other == Ground::W {
             remember_w(call, tally);
         }
     }
-    if next_phase_fails_too(c, list, phase) {
-        tally.count(format!("phases.{phase}-and-{}", phase + 1));
-    }
+    phases::count(c, list, fault, tally);
     if fault == Fault::PageBodyCut {
         tally.count_if(
             unknown_code_cut(&list[HEADER..]),
@@ -58,10 +46,28 @@ fn failed(call: &Call, list: &[u8], fault: Fault, tally: &mut Tally) {
     }
     if let Ok(parts) = cut(&list[HEADER..]) {
         finer(&parts, fault, tally);
+        if fault == Fault::TooManyAces {
+            one_ace_more(c, &parts, tally);
+        }
         if fault == Fault::TooManyLuacds {
             let last = parts.last().and_then(|part| read(part).ok());
             let there = last.is_some_and(|page| stands_in(c, &page) > MOST_LUACDS);
             tally.count_if(!there, "fault.17-luacds.not-last-page");
+        }
+    }
+}
+
+/// How a list comes to more ACEs than there is room for.
+fn one_ace_more(c: &Coordinator, parts: &[&[u8]], tally: &mut Tally) {
+    let pages: Vec<Page> = parts.iter().filter_map(|part| read(part).ok()).collect();
+    let new = |page: &&Page| page.granted().is_some_and(|id| !c.acl.contains_key(id));
+    for page in pages.iter().filter(new) {
+        match page {
+            Page::Grant {
+                descriptors: [], ..
+            } => tally.count("fault.33-aces.beside-removal-of-nothing"),
+            Page::GrantAll { .. } => tally.count("fault.33-aces.by-everything"),
+            _ => {}
         }
     }
 }
@@ -73,26 +79,6 @@ fn remember_w(call: &Call, tally: &mut Tally) {
         if pending {
             tally.memory.w_counted.insert(initiator);
         }
-    }
-}
-
-/// Whether a list that fails in one phase would fail in the next one as well.
-fn next_phase_fails_too(c: &Coordinator, list: &[u8], phase: u8) -> bool {
-    if phase == 1 {
-        return check_key(c, list).is_err();
-    }
-    let Ok(parts) = cut(&list[HEADER..]) else {
-        return false;
-    };
-    if phase == 2 {
-        return read_all(c, list, &parts).is_err();
-    }
-    let pages: Vec<Page> = parts.iter().filter_map(|part| read(part).ok()).collect();
-    match phase {
-        3 => check_luns(c, &pages).is_err(),
-        4 => check_room(c, &pages, c).is_err(),
-        5 => clash_of_any(&end_state(c, list, &pages)).is_some(),
-        _ => false,
     }
 }
 
@@ -110,6 +96,12 @@ fn unknown_code_cut(mut rest: &[u8]) -> bool {
 /// Kinds of phase 3 and 4 faults that share a name.
 fn finer(parts: &[&[u8]], fault: Fault, tally: &mut Tally) {
     match fault {
+        Fault::PageCode => parts.iter().for_each(|part| page_code(part, tally)),
+        Fault::IdentifierType => {
+            let top = |part: &&&[u8]| part[0] < 2 && matches!(part.get(5), Some(0x80 | 0x81));
+            let any = parts.iter().any(|part| top(&part));
+            tally.count_if(any, "fault.identifier-type.top-bit");
+        }
         Fault::PageLength(0 | 1) => {
             let short = parts.iter().any(|part| part[0] < 2 && part.len() < 32);
             tally.count_if(short, "fault.page-length-short");
@@ -137,6 +129,20 @@ fn finer(parts: &[&[u8]], fault: Fault, tally: &mut Tally) {
             tally.count_if(over, "fault.lun-form.overruled");
         }
         _ => {}
+    }
+}
+
+/// A page of a code over 03h that a reader of fewer bits would take, or that
+/// gives a reader of lengths nothing to dislike.
+fn page_code(part: &[u8], tally: &mut Tally) {
+    if part[0] < 4 {
+        return;
+    }
+    tally.count_if(part.len() == 4, "fault.page-code.empty");
+    let mut masked = part.to_vec();
+    masked[0] &= 0x7f;
+    if part[0] >= 0x80 && read(&masked).is_ok() {
+        tally.count(format!("fault.page-code.{:02X}h", part[0]));
     }
 }
 
@@ -216,6 +222,11 @@ fn header(call: &Call, list: &[u8], pages: &[Page], tally: &mut Tally) {
     tally.count_if(again, "disable.on-again");
     let new_key = c.enabled && call.after.key != c.key;
     tally.count_if(new_key, "list.new-key");
+    tally.count_if(new_key && call.after.key == 0, "list.new-key.zero");
+    let full = c.acl.len() == 32 && call.after.acl.len() == 32;
+    let replaces = |page: &Page| page.granted().is_some_and(|id| c.acl.contains_key(id));
+    let replaces = full && pages.iter().any(replaces);
+    tally.count_if(replaces, "list.32-aces-replaced");
     if list[21] & 0x80 != 0 {
         let enrolled = |e: &Enrolment| matches!(e, Enrolment::Enrolled(_));
         let any = c.enrolments.iter().any(enrolled);
@@ -370,7 +381,7 @@ fn enrolments(c: &Coordinator, page: &Page, next: &Coordinator, tally: &mut Tall
         _ => return,
     };
     let Identifier::AccessId(access_id) = id else {
-        return;
+        return transportid_alike(c, page, id, tally);
     };
     let equal = c.acl.get(id) == next.acl.get(id);
     for held in &c.enrolments {
@@ -389,6 +400,28 @@ fn enrolments(c: &Coordinator, page: &Page, next: &Coordinator, tally: &mut Tall
         let ends_equal = !keeps && !removal && equal;
         tally.count_if(ends_equal, "list.nocncl-0.equal-ace-ends");
     }
+}
+
+/// A TransportID's page, while an enrolment stands under the AccessID that
+/// begins as the TransportID does.
+fn transportid_alike(c: &Coordinator, page: &Page, id: &Identifier, tally: &mut Tally) {
+    let Identifier::TransportId(bytes) = id else {
+        return;
+    };
+    let (what, keeps) = match page {
+        Page::GrantAll { keeps, .. } => ("everything", keeps),
+        Page::Grant {
+            keeps,
+            descriptors: [],
+            ..
+        } => ("removes", keeps),
+        Page::Grant { keeps, .. } if c.acl.contains_key(id) => ("replaces", keeps),
+        Page::Grant { keeps, .. } => ("adds", keeps),
+        _ => return,
+    };
+    let mut held = c.enrolments.iter().filter_map(|e| e.access_id());
+    let alike = held.any(|access_id| access_id[..] == bytes[..access_id.len()]);
+    tally.count_if(alike && !keeps, format!("list.transportid-alike.{what}"));
 }
 
 /// An ACE of the other type whose identifier has the same bytes.

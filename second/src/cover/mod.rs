@@ -5,6 +5,7 @@ mod calls;
 mod items;
 mod lists;
 mod names;
+mod phases;
 mod proxies;
 mod questions;
 
@@ -19,6 +20,8 @@ use std::io::{self, BufRead, Write};
 /// a slip in a name shows.
 pub struct Tally {
     counts: BTreeMap<String, u64>,
+    /// How many journals have an item.
+    journals: BTreeMap<String, u64>,
     unlisted: BTreeSet<String>,
     memory: Memory,
 }
@@ -44,6 +47,7 @@ impl Tally {
         let counts = items::all().into_iter().map(|name| (name, 0)).collect();
         Tally {
             counts,
+            journals: BTreeMap::new(),
             unlisted: BTreeSet::new(),
             memory: Memory::default(),
         }
@@ -68,6 +72,14 @@ impl Tally {
     fn missing(&self) -> u64 {
         self.counts.values().filter(|count| **count == 0).count() as u64
     }
+
+    /// Items that one journal alone has: a change to it could lose them unseen.
+    /// Only the last of several journals put together can lack its last LF.
+    fn alone(&self) -> Vec<&String> {
+        let once = self.journals.iter().filter(|(_, journals)| **journals == 1);
+        let names = once.map(|(name, _)| name);
+        names.filter(|name| *name != "line.no-lf").collect()
+    }
 }
 
 /// A command that got past refusals 3 to 5 and has a supported service action.
@@ -81,9 +93,21 @@ pub struct Call<'a> {
     lent: &'a [u8],
 }
 
-/// Counts a journal's items and prints them; how many are missing.
-pub fn cover(input: &mut impl BufRead, output: &mut impl Write) -> io::Result<u64> {
-    let tally = tally(input)?;
+/// Counts the items of journals and prints them; whether each item is there,
+/// and in two journals at least where there are several. Each journal begins with
+/// a coordinator of its own.
+pub fn cover(journals: Vec<Box<dyn BufRead + '_>>, output: &mut impl Write) -> io::Result<bool> {
+    let mut tally = Tally::new();
+    let several = journals.len() > 1;
+    for mut journal in journals {
+        let before = tally.counts.clone();
+        count_journal(&mut journal, &mut tally)?;
+        for (name, count) in &tally.counts {
+            if before.get(name) != Some(count) {
+                *tally.journals.entry(name.clone()).or_default() += 1;
+            }
+        }
+    }
     for name in items::all() {
         let count = tally.counts.get(&name).copied().unwrap_or(0);
         writeln!(output, "{name} {count}")?;
@@ -91,28 +115,34 @@ pub fn cover(input: &mut impl BufRead, output: &mut impl Write) -> io::Result<u6
     for name in &tally.unlisted {
         writeln!(output, "unlisted {name}")?;
     }
+    let alone = if several { tally.alone() } else { Vec::new() };
+    for name in &alone {
+        writeln!(output, "alone {name}")?;
+    }
     writeln!(output, "missing {}", tally.missing())?;
     output.flush()?;
-    Ok(tally.missing())
+    Ok(tally.missing() == 0 && alone.is_empty())
 }
 
 /// The names counted that no item has: always none.
 pub fn unlisted(input: &mut impl BufRead) -> io::Result<Vec<String>> {
-    Ok(tally(input)?.unlisted.into_iter().collect())
+    let mut tally = Tally::new();
+    count_journal(input, &mut tally)?;
+    Ok(tally.unlisted.into_iter().collect())
 }
 
-fn tally(input: &mut impl BufRead) -> io::Result<Tally> {
-    let mut tally = Tally::new();
+fn count_journal(input: &mut impl BufRead, tally: &mut Tally) -> io::Result<()> {
     let mut c = Coordinator::default();
+    tally.memory = Memory::default();
     while let Some(line) = next_line(input)? {
-        count_line(&line, &mut tally);
+        count_line(&line, tally);
         if let Ok(Some(statement)) = read_line(&line) {
             let before = c.clone();
             let answer = put_to(&mut c, &statement);
-            count_statement(&before, &statement, &answer, &c, &mut tally);
+            count_statement(&before, &statement, &answer, &c, tally);
         }
     }
-    Ok(tally)
+    Ok(())
 }
 
 fn count_line(line: &Line, tally: &mut Tally) {
@@ -145,8 +175,9 @@ fn count_statement(
 ) {
     match (statement, answer) {
         (Statement::Setup { .. }, Answer::Setup(result)) => {
+            // What a setup forgets has not ended in the sense of the items.
             tally.memory = Memory::default();
-            questions::setup(before, result, after, tally);
+            return questions::setup(before, result, after, tally);
         }
         (Statement::Command { call, .. }, Answer::Command { outcome, lent }) => {
             count_command(before, call, *outcome, lent, after, tally);
@@ -193,17 +224,21 @@ fn count_command(
         lent,
     };
     calls::any(&call, tally);
-    match action {
-        Action::ReportAcl => questions::report(&call, tally),
-        Action::ManageAcl => lists::manage(&call, tally),
-        Action::Enroll => calls::enroll(&call, tally),
-        Action::Cancel => calls::cancel(&call, tally),
-        Action::Disable => calls::disable(&call, tally),
-        Action::RequestProxyToken => proxies::request(&call, tally),
-        Action::RevokeProxyToken => proxies::revoke(&call, tally),
-        Action::RevokeAllProxyTokens => proxies::revoke_all(&call, tally),
-        Action::AssignProxyLun => proxies::assign(&call, tally),
-        Action::ReleaseProxyLun => proxies::release(&call, tally),
+    count_action(&call, tally);
+}
+
+fn count_action(call: &Call, tally: &mut Tally) {
+    match call.action {
+        Action::ReportAcl => questions::report(call, tally),
+        Action::ManageAcl => lists::manage(call, tally),
+        Action::Enroll => calls::enroll(call, tally),
+        Action::Cancel => calls::cancel(call, tally),
+        Action::Disable => calls::disable(call, tally),
+        Action::RequestProxyToken => proxies::request(call, tally),
+        Action::RevokeProxyToken => proxies::revoke(call, tally),
+        Action::RevokeAllProxyTokens => proxies::revoke_all(call, tally),
+        Action::AssignProxyLun => proxies::assign(call, tally),
+        Action::ReleaseProxyLun => proxies::release(call, tally),
     }
 }
 
@@ -221,9 +256,6 @@ fn remember(before: &Coordinator, after: &Coordinator, tally: &mut Tally) {
     memory.tokens_were_full |= after.tokens.len() == 32;
     memory.proxies_were_full |= after.proxy_luns.len() == 32;
     memory.been_on |= after.enabled;
-    if before.transport_ids != after.transport_ids {
-        return;
-    }
     tally.count_if(
         before.acl.len() < 32 && after.acl.len() == 32,
         "size.32-aces",

@@ -1,9 +1,9 @@
 //! The words of item names.
 
 use crate::coordinator::Action;
-use crate::fault::{Clash, Fault};
+use crate::fault::Fault;
+use crate::ground::{Clash, Ground};
 use crate::journal::Expected;
-use crate::rows::Ground;
 use crate::setup::Broken;
 
 pub fn action(action: Action) -> &'static str {

@@ -4,7 +4,8 @@ use super::{Call, Tally};
 use crate::bytes::{lun_number, number};
 use crate::coordinator::Outcome;
 use crate::fault::Fault;
-use crate::rows::{rows, rows_at, Ground};
+use crate::ground::Ground;
+use crate::rows::{rows, rows_at, Row};
 use crate::state::Coordinator;
 
 pub fn request(call: &Call, tally: &mut Tally) {
@@ -28,7 +29,12 @@ pub fn request(call: &Call, tally: &mut Tally) {
                 "request.W-alone"
             });
         }
-        Outcome::Check(Fault::LunForm) => tally.count("request.malformed"),
+        Outcome::Check(Fault::LunForm) => {
+            tally.count("request.malformed");
+            let own = |row: &Row| matches!(row.ground, Ground::T | Ground::A);
+            let same = rows_at(c, call.initiator, cdb[3]).iter().any(own);
+            tally.count_if(same, "request.malformed.same-nn");
+        }
         Outcome::Check(Fault::LunOpensNothing) if grounds.is_empty() => {
             tally.count("request.no-row");
         }
@@ -95,7 +101,7 @@ pub fn revoke_all(call: &Call, tally: &mut Tally) {
         return;
     }
     let Some(named) = lun_number(&call.command.list) else {
-        return tally.count("revoke-all.malformed");
+        return revoke_all_malformed(call, tally);
     };
     let ended: Vec<u64> = c
         .tokens
@@ -118,6 +124,18 @@ pub fn revoke_all(call: &Call, tally: &mut Tally) {
     let leaves =
         kept.any(|t| units.contains(&t.unit) && t.requester == call.initiator && t.named != named);
     tally.count_if(leaves, "revoke-all.leaves-other-lun");
+}
+
+/// A LUN of another form ends nothing, also where its nn is that of a token.
+fn revoke_all_malformed(call: &Call, tally: &mut Tally) {
+    tally.count("revoke-all.malformed");
+    let list = &call.command.list;
+    let mut tokens = call.before.tokens.values();
+    if tokens.any(|t| t.requester == call.initiator && t.named == list[1]) {
+        tally.count_if(list[0] != 0, "revoke-all.malformed.same-nn.byte-0");
+        let rest = list[2..].iter().any(|byte| *byte != 0);
+        tally.count_if(rest, "revoke-all.malformed.same-nn.bytes-2-7");
+    }
 }
 
 pub fn assign(call: &Call, tally: &mut Tally) {
@@ -176,7 +194,9 @@ pub fn release(call: &Call, tally: &mut Tally) {
         return;
     }
     let Some(nn) = lun_number(list) else {
-        return tally.count("release.malformed");
+        tally.count("release.malformed");
+        let own = c.proxy_luns.contains_key(&(call.initiator, list[1]));
+        return tally.count_if(own, "release.malformed.same-nn");
     };
     let rows = rows_at(c, call.initiator, nn);
     let other = rows.iter().any(|row| row.ground != Ground::X);

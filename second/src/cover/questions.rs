@@ -4,8 +4,9 @@ use super::{names, Call, Tally};
 use crate::bytes::{lun_number, number};
 use crate::coordinator::{initiator, Outcome};
 use crate::fault::Fault;
+use crate::ground::Ground;
 use crate::report::report_acl;
-use crate::rows::{rows, rows_at, Ground};
+use crate::rows::{rows, rows_at, Row};
 use crate::setup::Broken;
 use crate::state::{Ace, Coordinator, Enrolment, Identifier};
 
@@ -55,6 +56,9 @@ pub fn route(c: &Coordinator, number: u64, lun: &[u8], outcome: &Outcome, tally:
             tally.count_if(*fault == Fault::Pending, "route.pending");
             tally.count_if(*fault == Fault::NotRouted, "route.nothing");
             tally.count_if(lun_number(lun).is_none(), "route.malformed");
+            let same = initiator(c, number).is_some_and(|i| opens(c, i, lun[1]));
+            let same = same && lun_number(lun).is_none();
+            tally.count_if(same, "route.malformed.same-nn");
         }
         Outcome::Good(_) => {}
     }
@@ -62,13 +66,33 @@ pub fn route(c: &Coordinator, number: u64, lun: &[u8], outcome: &Outcome, tally:
         return;
     };
     if matches!(outcome, Outcome::Good(_)) {
-        for row in rows_at(c, initiator, nn) {
-            match row.ground {
-                Ground::W => tally.count("route.beside-W"),
-                ground => tally.count(format!("route.{}", names::letter(ground))),
-            }
-        }
+        opened_by(&rows_at(c, initiator, nn), tally);
     }
+}
+
+fn opens(c: &Coordinator, initiator: usize, nn: u8) -> bool {
+    let rows = rows_at(c, initiator, nn);
+    rows.iter().any(|row| row.ground != Ground::W)
+}
+
+/// The grounds that open a LUN, and those that stand there beside each other.
+fn opened_by(rows: &[Row], tally: &mut Tally) {
+    let mut letters: Vec<char> = rows.iter().map(|row| names::letter(row.ground)).collect();
+    for letter in letters.iter().filter(|letter| **letter != 'W') {
+        tally.count(format!("route.{letter}"));
+    }
+    letters.sort();
+    let beside = match letters[..] {
+        ['A', 'T'] => "A-beside-T",
+        ['A', 'X'] => "X-beside-A",
+        ['T', 'X'] => "X-beside-T",
+        ['W', 'X'] => "X-beside-W",
+        ['T', 'W'] => "T-beside-W",
+        ['A', 'T', 'X'] => "X-beside-A-and-T",
+        ['T', 'W', 'X'] => "X-beside-T-and-W",
+        _ => return,
+    };
+    tally.count(format!("route.{beside}"));
 }
 
 pub fn reach(c: &Coordinator, outcome: &Outcome, lent: &[u8], tally: &mut Tally) {

@@ -1,9 +1,12 @@
 //! Single statements, aimed at the state they meet.
 
 use super::{wire, Maker};
+use crate::ground::Ground;
 use crate::report::{reach_list, report_acl};
-use crate::rows::Ground;
 use crate::state::Identifier;
+
+/// Allocation lengths of which a narrow reader would see too little.
+const WIDE: [usize; 3] = [0x1_0000, 0x0100_0000, u32::MAX as usize];
 
 impl Maker {
     pub(super) fn act(&mut self) {
@@ -57,7 +60,7 @@ impl Maker {
         let own = self.luns_on(initiator, &[Ground::T, Ground::A]);
         let other = self.luns_on(initiator, &[Ground::W, Ground::X, Ground::O]);
         let lun = match self.rng.below(10) {
-            0 => self.malformed_lun(),
+            0 => self.malformed_of(&own),
             1 => wire::lun(self.rng.byte()),
             2..=4 if !other.is_empty() => wire::lun(self.rng.pick(&other).unwrap_or(0)),
             _ => wire::lun(self.rng.pick(&own).unwrap_or(0)),
@@ -67,6 +70,7 @@ impl Maker {
             0 => Some(0),
             1 => self.rng.pick(&live),
             2..=4 => self.rng.pick(&self.issued),
+            5 => self.alike_number(&live),
             _ => None,
         };
         let number = number.unwrap_or(self.new_number());
@@ -77,7 +81,7 @@ impl Maker {
         let allocation = match self.rng.below(12) {
             0 => self.rng.below(8),
             1 => 9 + self.rng.below(1000),
-            2 => u32::MAX as usize,
+            2 => WIDE[self.rng.below(3)],
             _ => 8,
         };
         let buffer = match self.rng.below(12) {
@@ -100,6 +104,7 @@ impl Maker {
             0 => Some(0),
             1 => self.rng.pick(&self.issued),
             2 | 3 => self.rng.pick(&live),
+            4 => self.alike_number(&own),
             _ => self.rng.pick(&own),
         };
         let token = token.unwrap_or(self.rng.next());
@@ -121,8 +126,8 @@ impl Maker {
             .map(|token| token.named)
             .collect();
         let lun = match self.rng.below(8) {
-            0 => self.malformed_lun(),
-            1 => wire::lun(self.rng.byte()),
+            0 | 1 => self.malformed_of(&named),
+            2 => wire::lun(self.rng.byte()),
             _ => wire::lun(self.rng.pick(&named).unwrap_or(1)),
         };
         self.out(initiator, 8, &lun.to_be_bytes());
@@ -131,7 +136,7 @@ impl Maker {
     pub(super) fn assign(&mut self, initiator: usize) {
         let live: Vec<u64> = self.c.tokens.keys().copied().collect();
         let token = match self.rng.below(10) {
-            0 => Some(self.rng.next()),
+            0 => self.alike_number(&live),
             1 => self.rng.pick(&self.issued),
             _ => self.rng.pick(&live),
         };
@@ -156,13 +161,21 @@ impl Maker {
         let own = self.luns_on(initiator, &[Ground::X]);
         let other = self.luns_on(initiator, &[Ground::T, Ground::A, Ground::W]);
         let lun = match self.rng.below(8) {
-            0 => self.malformed_lun(),
+            0 => self.malformed_of(&own),
             1 => wire::lun(self.rng.byte()),
             2 => wire::lun(self.proxy_lun_of_any()),
             3 => wire::lun(self.rng.pick(&other).unwrap_or(0)),
             _ => wire::lun(self.rng.pick(&own).unwrap_or(0)),
         };
         self.out(initiator, 0x0a, &lun.to_be_bytes());
+    }
+
+    /// A LUN of another form whose nn is mostly that of one of these.
+    fn malformed_of(&mut self, luns: &[u8]) -> u64 {
+        match self.rng.pick(luns) {
+            Some(nn) if self.rng.below(4) > 0 => self.malformed(nn),
+            _ => self.malformed_lun(),
+        }
     }
 
     /// A LUN that somebody holds as proxy LUN.
@@ -182,12 +195,8 @@ impl Maker {
 
     pub(super) fn disable_with(&mut self, initiator: usize, right: bool) {
         let mut list = [0; 12];
-        let wrong = 1 << self.rng.below(64);
-        let key = if right {
-            self.c.key
-        } else {
-            self.c.key ^ wrong
-        };
+        let wrong = self.wrong_key();
+        let key = if right { self.c.key } else { wrong };
         list[..4].fill(self.rng.byte());
         list[4..].copy_from_slice(&key.to_be_bytes());
         self.out(initiator, 1, &list);
@@ -202,7 +211,7 @@ impl Maker {
             1..=3 => self.rng.below(shown + 1),
             4 if whole > shown => whole,
             _ if whole > 600 => shown,
-            5 => u32::MAX as usize,
+            5 => WIDE[self.rng.below(3)],
             6 => whole + self.rng.below(300),
             _ => whole,
         };
@@ -217,12 +226,12 @@ impl Maker {
             2 => delivered + self.rng.below(40),
             _ => delivered,
         };
-        let wrong = if self.rng.once_in(9) {
-            1 << self.rng.below(64)
+        let key = if self.rng.once_in(9) {
+            self.wrong_key()
         } else {
-            0
+            self.c.key
         };
-        let mut cdb = wire::cdb(0x86, 0, self.c.key ^ wrong, allocation);
+        let mut cdb = wire::cdb(0x86, 0, key, allocation);
         self.add_noise(&mut cdb);
         self.command(initiator, &cdb, &[], 0, buffer);
     }
@@ -239,11 +248,21 @@ impl Maker {
         self.say(&format!("reach {buffer}"));
     }
 
+    /// All that can be seen of the tables, or a fault in them may go unseen.
+    pub(super) fn look(&mut self) {
+        self.say("reach 8192");
+        let whole = report_acl(&self.c).len();
+        if whole <= 1000 && self.initiators() > 0 {
+            let cdb = wire::cdb(0x86, 0, self.c.key, whole);
+            self.command(0, &cdb, &[], 0, whole);
+        }
+    }
+
     pub(super) fn route(&mut self, initiator: usize) {
         let grounds = [Ground::T, Ground::A, Ground::W, Ground::X, Ground::O];
         let known = self.luns_on(initiator, &grounds);
         let lun = match self.rng.below(10) {
-            0 => self.malformed_lun(),
+            0 => self.malformed_of(&known),
             1 => wire::lun(self.rng.byte()),
             2 => wire::lun(self.some_home()),
             _ => wire::lun(self.rng.pick(&known).unwrap_or(0)),

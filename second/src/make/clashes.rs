@@ -22,21 +22,32 @@ impl Maker {
 
     fn clash_of_t_and_a(&mut self, initiator: usize) {
         self.enrolled_beside_t(initiator);
+        let token = self.token_for(initiator, 1);
+        let free = lun(self.free_lun(initiator));
+        self.assign_at(initiator, token, free);
         let (one, two) = (self.home(0), self.home(1));
         let named = self.transport(initiator);
         let other_unit = self.luacd(two, 2);
         let other_lun = self.luacd(one.wrapping_add(100), 1);
-        self.send_pages(vec![grant_page(named, true, &[other_unit])]);
+        // A list that fails neither flushes nor revokes.
+        let mut flushing = self.right_header();
+        flushing.flush = true;
+        flushing.pages = vec![grant_page(named, true, &[other_unit]), all_tokens_page()];
+        self.send(&flushing);
         self.send_pages(vec![grant_page(named, true, &[other_lun])]);
         let access = self.access(0);
+        self.route_home(initiator, 1);
+        self.say(&format!("route {initiator} {free:016x}"));
         let other_unit = self.luacd(one, 2);
         self.send_pages(vec![grant_page(access, true, &[other_unit])]);
         // Without NOCNCL the enrolment ends, so that nothing clashes.
         self.send_pages(vec![grant_page(access, false, &[other_unit])]);
+        self.send_pages(vec![grant_page(access, true, &[])]);
+        self.say(&format!("route {initiator} {free:016x}"));
     }
 
     /// T has unit 0, and A (or W) unit 1, each at its home LUN.
-    fn enrolled_beside_t(&mut self, initiator: usize) {
+    pub(super) fn enrolled_beside_t(&mut self, initiator: usize) {
         self.out(initiator, 3, &[]);
         let mine = grant_page(self.transport(initiator), false, &[self.at_home(0)]);
         let access = self.access(0);
@@ -152,13 +163,18 @@ impl Maker {
         let id = self.ids[0];
         self.enroll_under(initiator, id);
         self.reach();
+        self.route_home(initiator, 1);
         if self.rng.once_in(2) {
             self.link(initiator);
+            self.route_home(initiator, 1);
         }
         self.request_with(initiator, lun(self.home(1)), token ^ 6);
         self.send_pages(vec![mine]);
+        self.route_home(initiator, 1);
         self.request_with(initiator, lun(self.home(1)), token ^ 8);
         self.reach();
+        self.out(initiator, 3, &[]);
+        self.route_home(initiator, 1);
         self.out(initiator, 0x0a, &lun(self.home(1)).to_be_bytes());
         self.say(&format!("route {initiator} {:016x}", lun(self.home(1))));
     }

@@ -8,8 +8,9 @@ use super::Maker;
 impl Maker {
     /// A header that passes, with no pages yet.
     pub(super) fn right_header(&mut self) -> Sketch {
-        let new_key = match self.rng.below(4) {
-            0 => self.rng.next(),
+        let new_key = match self.rng.below(12) {
+            0..=2 => self.rng.next(),
+            3 => 0,
             _ => self.c.key,
         };
         Sketch {
@@ -148,7 +149,7 @@ impl Maker {
         (0..count)
             .filter_map(|_| match self.rng.below(6) {
                 0 => Some(0),
-                1 => Some(self.rng.next()),
+                1 => self.alike_number(&live),
                 2 => self.rng.pick(&self.issued),
                 _ => self.rng.pick(&live),
             })
@@ -162,7 +163,9 @@ impl Maker {
             let luacds = self.some_luacds();
             pages.push(grant_page(self.transport(initiator), false, &luacds));
         }
-        if self.units() > 0 && self.rng.once_in(2) {
+        if self.units() == 0 {
+            pages.push(grant_all_page(self.access(0), false));
+        } else if self.rng.once_in(2) {
             let unit = self.rng.below(self.units());
             let (named, luacd) = (self.access(0), self.at_home(unit));
             pages.push(grant_page(named, false, &[luacd]));
@@ -224,7 +227,7 @@ impl Maker {
     }
 
     /// A grant page of some initiator or AccessID to spoil, put anywhere.
-    fn with_page(&mut self, sketch: &mut Sketch, page: Vec<u8>) {
+    pub(super) fn with_page(&mut self, sketch: &mut Sketch, page: Vec<u8>) {
         let at = self.rng.below(sketch.pages.len() + 1);
         sketch.pages.insert(at, page);
     }
@@ -233,9 +236,10 @@ impl Maker {
     fn spoil(&mut self, sketch: &mut Sketch) {
         match self.rng.below(12) {
             0 | 1 => self.spoil_end(sketch),
-            2 => sketch.key ^= 1 << self.rng.below(64),
-            3 => sketch.generation = [1 - sketch.generation.min(1), 2, u32::MAX][self.rng.below(3)],
-            4 | 5 => self.spoil_head(sketch),
+            2 => sketch.key = self.wrong_key(),
+            3 => self.spoil_generation(sketch),
+            4 => self.spoil_head(sketch),
+            5 => self.spoil_code(sketch),
             6 | 7 => self.spoil_length(sketch),
             8 => self.spoil_by_twins(sketch),
             _ => self.spoil_luacd(sketch),
@@ -243,7 +247,7 @@ impl Maker {
     }
 
     /// Phase 1: the end of the list is cut, or a page says more than there is.
-    fn spoil_end(&mut self, sketch: &mut Sketch) {
+    pub(super) fn spoil_end(&mut self, sketch: &mut Sketch) {
         if self.rng.once_in(2) {
             let head = [self.rng.byte() & 3, 0, 0];
             let left = 1 + self.rng.below(3);
@@ -259,8 +263,36 @@ impl Maker {
         sketch.pages.push(page);
     }
 
+    /// Phase 3: another generation, alike in some of its bytes.
+    pub(super) fn spoil_generation(&mut self, sketch: &mut Sketch) {
+        let right = sketch.generation;
+        let near = right | 0x100 << [0, 8, 16][self.rng.below(3)];
+        sketch.generation = match self.rng.below(4) {
+            0 => 1 - right.min(1),
+            1 => [2, u32::MAX][self.rng.below(2)],
+            _ => near,
+        };
+    }
+
+    /// Phase 3: a right page but for its code, or one without bytes.
+    pub(super) fn spoil_code(&mut self, sketch: &mut Sketch) {
+        if self.rng.once_in(4) {
+            let code = [4, 5, 0x10, 0x7f, 0x84, 0xff][self.rng.below(6)];
+            return self.with_page(sketch, page(code, &[]));
+        }
+        let named = self.any_named();
+        let mut bad = match self.rng.below(4) {
+            0 => grant_all_page(named, true),
+            1 => tokens_page(&self.some_tokens()),
+            2 => all_tokens_page(),
+            _ => grant_page(named, true, &self.some_luacds()),
+        };
+        bad[0] |= [0x80, 0x80, 0x80, 0x40, 0x10, 0x04][self.rng.below(6)];
+        self.with_page(sketch, bad);
+    }
+
     /// Phase 3: what stands in a page's head.
-    fn spoil_head(&mut self, sketch: &mut Sketch) {
+    pub(super) fn spoil_head(&mut self, sketch: &mut Sketch) {
         let named = self.any_named();
         let mut bad = if self.rng.once_in(3) {
             grant_all_page(named, false)
@@ -269,7 +301,7 @@ impl Maker {
         };
         match self.rng.below(5) {
             0 => bad[0] = [4, 5, 0xef, 0xf0, 0xff][self.rng.below(5)],
-            1 => bad[5] = [2, 0x7f, 0x80, 0xff][self.rng.below(4)],
+            1 => bad[5] = [2, 0x7f, 0x80 | bad[5], 0x10 | bad[5], 0xff][self.rng.below(5)],
             2 => bad[6] = 1 + self.rng.byte() % 255,
             3 => bad[7] = [0, 16, 23, 25, 44][self.rng.below(5)],
             _ => {
@@ -281,7 +313,7 @@ impl Maker {
     }
 
     /// Phase 3: a page length that its code does not allow.
-    fn spoil_length(&mut self, sketch: &mut Sketch) {
+    pub(super) fn spoil_length(&mut self, sketch: &mut Sketch) {
         let code = self.rng.below(4) as u8;
         let length = match code {
             0 => [0, 4, 27, 29, 38, 47, 49][self.rng.below(7)],
@@ -317,7 +349,7 @@ impl Maker {
     }
 
     /// Phases 3 to 5: one descriptor of a page, overruled or not.
-    fn spoil_luacd(&mut self, sketch: &mut Sketch) {
+    pub(super) fn spoil_luacd(&mut self, sketch: &mut Sketch) {
         let mut luacds = self.some_luacds();
         let unit = self.rng.below(self.units());
         let good = self.at_home(unit);

@@ -5,6 +5,7 @@ mod acts;
 mod clashes;
 mod lists;
 mod odd;
+mod phases;
 mod rng;
 mod scripts;
 mod setups;
@@ -12,19 +13,21 @@ mod tokens;
 mod wire;
 
 use crate::bytes::hex;
+use crate::ground::Ground;
 use crate::journal::{put_to, read_line, Answer};
 use crate::lines::{Line, MOST_LINE};
-use crate::rows::{rows, Ground};
+use crate::rows::rows;
 use crate::state::{AccessId, Coordinator};
 use rng::Rng;
 use std::io::{self, Write};
 
-pub const THEMES: [&str; 10] = [
+pub const THEMES: [&str; 11] = [
     "mixed", "setups", "lists", "clashes", "proxies", "enrols", "reports", "sizes", "odd", "lines",
+    "phases",
 ];
 
 /// What each theme is aimed at, for the head of its journals.
-const AIMS: [&str; 10] = [
+const AIMS: [&str; 11] = [
     "all of it, each run under one of the other themes or none",
     "setups that keep the rules or break one, and what a refused one leaves",
     "MANAGE ACL lists, right ones and each malformation of the six phases",
@@ -35,6 +38,7 @@ const AIMS: [&str; 10] = [
     "16 and 17 LUACDs, 32 and 33 ACEs, everything of many units",
     "refusals, codes, lengths, lists of length 0, off and on again",
     "lines that are no statements, among statements",
+    "lists with faults of two phases, by each pair of kinds",
 ];
 
 /// What the command line asks for.
@@ -87,6 +91,8 @@ pub struct Maker {
     shift: u8,
     /// Token numbers issued in this run, live or not.
     issued: Vec<u64>,
+    /// The key before the one that is right now.
+    old_key: u64,
 }
 
 impl Maker {
@@ -98,6 +104,7 @@ impl Maker {
             ids: Vec::new(),
             shift: 0,
             issued: Vec::new(),
+            old_key: 0,
         }
     }
 
@@ -113,7 +120,11 @@ impl Maker {
         let steps = most / 4 + self.rng.below(most);
         for _ in 0..steps {
             self.step(theme);
+            if self.rng.once_in(16) {
+                self.look();
+            }
         }
+        self.look();
     }
 
     fn step(&mut self, theme: usize) {
@@ -136,6 +147,7 @@ impl Maker {
             "sizes" => self.size_script(),
             "odd" => self.odd(),
             "lines" => self.no_statement(),
+            "phases" => self.all_phases(),
             _ => self.act(),
         }
     }
@@ -152,7 +164,12 @@ impl Maker {
             bytes,
         };
         let statement = read_line(&line).ok().flatten()?;
-        Some(put_to(&mut self.c, &statement))
+        let key = self.c.key;
+        let answer = put_to(&mut self.c, &statement);
+        if self.c.key != key {
+            self.old_key = key;
+        }
+        Some(answer)
     }
 
     /// Now and then the same statement in other clothes.
@@ -247,16 +264,38 @@ impl Maker {
 
     /// Eight bytes that are no LUN of the house form.
     fn malformed_lun(&mut self) -> u64 {
-        let good = wire::lun(self.rng.byte());
-        let byte = [0, 2, 3, 4, 5, 6, 7][self.rng.below(7)];
+        let nn = self.rng.byte();
+        self.malformed(nn)
+    }
+
+    /// The LUN of an nn with one bit set that must not be.
+    fn malformed(&mut self, nn: u8) -> u64 {
+        let good = wire::lun(nn);
+        let byte = [0, 0, 2, 3, 4, 5, 6, 7][self.rng.below(8)];
         good | 1 << (8 * (7 - byte) + self.rng.below(8))
+    }
+
+    /// A key that is not the right one: the last one, or one bit off.
+    fn wrong_key(&mut self) -> u64 {
+        if self.old_key != self.c.key && self.rng.once_in(3) {
+            return self.old_key;
+        }
+        self.c.key ^ 1 << self.rng.below(64)
+    }
+
+    /// A number that is alike to one of these in its last 32 bits.
+    fn alike_number(&mut self, numbers: &[u64]) -> Option<u64> {
+        let bit = 1 << 32 << self.rng.below(32);
+        self.rng.pick(numbers).map(|number| number ^ bit)
     }
 
     /// A number that no token has had in this run.
     fn new_number(&mut self) -> u64 {
-        let number = match self.rng.below(3) {
-            0 => self.rng.next(),
-            1 => 0xffff_ffff_ffff_0000 | self.rng.next() >> 48,
+        let number = match self.rng.below(10) {
+            0..=2 => self.rng.next(),
+            3..=5 => 0xffff_ffff_ffff_0000 | self.rng.next() >> 48,
+            6 => 1 + self.rng.next() % 4,
+            7 => self.rng.next() << 32,
             _ => 1 + self.rng.next() % 4096,
         };
         if number == 0 || self.issued.contains(&number) {

@@ -18,7 +18,7 @@ const OUT: [(u8, usize); 8] = [
 ];
 
 /// Lines that are no statements, two to skip, and two with numbers of many digits.
-const LINES: [&str; 40] = [
+const LINES: [&str; 44] = [
     "",
     "# a comment between statements",
     "   ",
@@ -57,6 +57,10 @@ const LINES: [&str; 40] = [
     "reach 99999999999999999999999999",
     "reach -",
     "reach 8 8",
+    "reach\t64",
+    "reach 64\r\r",
+    " # no comment",
+    "reach 64\u{e9}",
     "link 00000000000000000000000000000000000000000001",
     "reach 0000000000000000000000000000000000000000064",
 ];
@@ -114,6 +118,9 @@ impl Maker {
         };
         let said = [0, 12, 24, 16_777_228, 65_548][self.rng.below(5)];
         let mut given = [1, 8, 12, 23, 24, 25][self.rng.below(6)];
+        if said > 0xffff && self.rng.once_in(2) {
+            given = said & 0xffff;
+        }
         if said == given {
             given += 1;
         }
@@ -146,7 +153,11 @@ impl Maker {
         let initiator = self.any_initiator();
         let (action, right) = OUT[self.rng.below(8)];
         let length = match (action, self.rng.below(4)) {
-            (0x00, _) => 1 + self.rng.below(27),
+            // Often the header but for its last byte.
+            (0x00, _) => match self.rng.below(27) {
+                n if n % 3 == 0 => 27,
+                n => n,
+            },
             (_, 0) => right + 1,
             (_, 1) if right > 1 => right - 1,
             _ => [1, 4, 28, 40, 8, 12, 16, 24][self.rng.below(8)],
@@ -179,7 +190,7 @@ impl Maker {
     }
 
     fn while_off(&mut self, initiator: usize) {
-        match self.rng.below(21) {
+        match self.rng.below(22) {
             0 => self.enroll(initiator),
             1 => self.out(initiator, 3, &[]),
             2 => self.request(initiator),
@@ -196,6 +207,11 @@ impl Maker {
             15 => self.wrong_service_action(),
             16 => self.manage(),
             17 => self.first_list_too_long(),
+            18 => {
+                let mut sketch = self.right_header();
+                self.spoil_luacd(&mut sketch);
+                self.send(&sketch);
+            }
             _ => self.length_zero(),
         }
     }

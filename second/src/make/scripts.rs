@@ -1,15 +1,18 @@
 //! Sequences aimed at deep states that single statements reach rarely.
 
-use super::wire::{grant_all_page, grant_page, lun};
+use super::wire::{grant_all_page, grant_page, lun, Named};
 use super::Maker;
+use crate::state::TransportId;
 
 impl Maker {
     pub(super) fn any_script(&mut self) {
-        match self.rng.below(5) {
+        match self.rng.below(7) {
             0 => self.clash_script(),
             1 => self.proxy_script(),
             2 => self.enrol_script(),
             3 => self.report_script(),
+            4 => self.some_phases(),
+            5 => self.alike(),
             _ => self.size_script(),
         }
     }
@@ -34,9 +37,10 @@ impl Maker {
             return self.act();
         }
         let initiator = self.any_initiator();
-        match self.rng.below(4) {
+        match self.rng.below(5) {
             0 => self.kept_or_ended(initiator),
             1 => self.everything_by_enrolment(initiator),
+            2 => self.alike(),
             _ => self.enrol_and_back(initiator),
         }
     }
@@ -52,7 +56,7 @@ impl Maker {
         if self.rng.once_in(2) {
             self.link(initiator);
         }
-        let page = match self.rng.below(6) {
+        let mut page = match self.rng.below(6) {
             0 => grant_page(access, true, &[luacd]),
             1 => grant_page(access, false, &[luacd]),
             2 => grant_page(access, true, &[]),
@@ -60,6 +64,9 @@ impl Maker {
             4 => grant_all_page(access, true),
             _ => grant_all_page(access, false),
         };
+        if self.rng.once_in(2) {
+            page[4] |= self.rng.byte() & 0x7f;
+        }
         let mut sketch = self.right_header();
         sketch.flush = self.rng.once_in(3);
         sketch.pages = vec![page];
@@ -69,7 +76,7 @@ impl Maker {
         self.reach();
     }
 
-    fn route_home(&mut self, initiator: usize, unit: usize) {
+    pub(super) fn route_home(&mut self, initiator: usize, unit: usize) {
         let at = lun(self.home(unit));
         self.say(&format!("route {initiator} {at:016x}"));
     }
@@ -97,6 +104,10 @@ impl Maker {
         let other = self.ids[self.rng.below(self.ids.len())];
         self.enroll_under(initiator, other);
         self.enroll_under(initiator, [0x33; 16]);
+        if let Some(mut near) = self.c.enrolments[initiator].access_id() {
+            near[[0, 7, 8, 15][self.rng.below(4)]] ^= 1 << self.rng.below(8);
+            self.enroll_under(initiator, near);
+        }
         self.enroll(initiator);
         if self.rng.once_in(2) {
             let mut sketch = self.right_header();
@@ -108,6 +119,47 @@ impl Maker {
             self.out(initiator, 3, &[]);
             self.link(initiator);
         }
+    }
+
+    /// Pages of a TransportID that begins as the AccessID of an enrolment does.
+    fn alike(&mut self) {
+        if self.units() == 0 || self.initiators() == 0 {
+            return self.act();
+        }
+        let initiator = self.any_initiator();
+        let (_, own) = self.transport(initiator);
+        let mut id = [0; 16];
+        id.copy_from_slice(&own[..16]);
+        let mut foreign = own;
+        foreign[23] ^= 0x80;
+        let luacd = self.at_home(0);
+        self.out(initiator, 3, &[]);
+        self.send_pages(vec![
+            grant_page((1, own), false, &[luacd]),
+            grant_page((0, own), false, &[]),
+        ]);
+        self.enroll_under(initiator, id);
+        self.send_pages(vec![
+            grant_page((1, own), false, &[]),
+            grant_page((0, own), false, &[luacd]),
+        ]);
+        self.route_home(initiator, 0);
+        self.enroll_under(initiator, id);
+        if self.rng.once_in(2) {
+            self.link(initiator);
+        }
+        for page in [
+            grant_page((1, own), false, &[luacd]),
+            grant_page((1, own), false, &[luacd]),
+            grant_page((1, foreign), false, &[luacd]),
+            grant_all_page((1, foreign), false),
+            grant_page((1, own), false, &[]),
+            grant_page((1, foreign), false, &[]),
+        ] {
+            self.send_pages(vec![page]);
+            self.route_home(initiator, 0);
+        }
+        self.reach();
     }
 
     // Reports.
@@ -148,10 +200,11 @@ impl Maker {
         if self.units() == 0 || self.initiators() == 0 {
             return self.act();
         }
-        match self.rng.below(5) {
+        match self.rng.below(6) {
             0 if self.units() >= 17 => self.luacds_full(),
             1 if self.units() >= 17 => self.everything_of_many(),
-            2 => self.aces_full(),
+            2 if self.units() >= 17 => self.long_report(),
+            3 => self.aces_full(),
             _ => self.act(),
         }
     }
@@ -188,6 +241,17 @@ impl Maker {
         self.report_cut(initiator, 40);
     }
 
+    /// A report of over 4096 bytes, of which the head is shown.
+    fn long_report(&mut self) {
+        let luacds: Vec<[u8; 20]> = (0..16).map(|unit| self.at_home(unit)).collect();
+        let ids: Vec<_> = (0..12).map(|n| self.transport_id(150 + n)).collect();
+        let grants = ids.iter().map(|id| grant_page((1, *id), false, &luacds));
+        self.send_pages(grants.collect());
+        self.report_cut(0, 40);
+        let removals = ids.iter().map(|id| grant_page((1, *id), false, &[]));
+        self.send_pages(removals.collect());
+    }
+
     /// 32 ACEs, a 33rd, and lists that pass 32 on the way alone.
     fn aces_full(&mut self) {
         let luacd = self.at_home(0);
@@ -198,16 +262,27 @@ impl Maker {
             fill.pages.push(grant_page((1, *id), false, &[luacd]));
         }
         self.send(&fill);
-        let one_more = grant_page((1, new[room]), false, &[luacd]);
-        self.send_pages(vec![one_more.clone()]);
-        if let Some(old) = new.first() {
-            let removed = grant_page((1, *old), false, &[]);
-            self.send_pages(vec![one_more, removed]);
-        }
+        self.one_ace_more((1, new[room]), new.first().copied());
         let removals = new.iter().map(|id| grant_page((1, *id), false, &[]));
         let removals = removals.collect();
         let shown = if self.rng.once_in(4) { 2000 } else { 48 };
         self.report_cut(0, shown);
         self.send_pages(removals);
+    }
+
+    /// With 32 ACEs: one more in several ways, and lists that need no more room.
+    fn one_ace_more(&mut self, named: Named, old: Option<TransportId>) {
+        let luacd = self.at_home(0);
+        let one_more = grant_page(named, false, &[luacd]);
+        let nothing = grant_page((1, self.transport_id(250)), false, &[]);
+        self.send_pages(vec![one_more.clone()]);
+        self.send_pages(vec![one_more.clone(), nothing]);
+        self.send_pages(vec![grant_all_page(named, false)]);
+        if let Some(old) = old {
+            let replaced = grant_page((1, old), false, &[luacd, luacd]);
+            self.send_pages(vec![replaced]);
+            let removed = grant_page((1, old), false, &[]);
+            self.send_pages(vec![one_more, removed]);
+        }
     }
 }

@@ -14,13 +14,20 @@ impl Maker {
             .collect();
         let (initiators, units) = self.fleet(theme);
         self.good_setup(initiators, units);
+        if initiators * units > 255 {
+            // More rows than one byte counts.
+            self.say("reach 2048");
+        }
         if self.rng.below(8) > 0 {
             self.turn_on();
         }
     }
 
     fn fleet(&mut self, theme: usize) -> (usize, usize) {
-        if THEMES[theme] == "sizes" {
+        if THEMES[theme] == "sizes" && self.rng.once_in(5) {
+            return (16, 17 + self.rng.below(3));
+        }
+        if matches!(THEMES[theme], "sizes" | "phases") {
             return (1 + self.rng.below(3), 17 + self.rng.below(6));
         }
         match self.rng.below(16) {
@@ -48,17 +55,31 @@ impl Maker {
         let mut id = [0; 24];
         id[0] = self.rng.below(2) as u8;
         id[8..16].copy_from_slice(&(self.rng.next() & 0xf0f0).to_be_bytes());
+        if self.rng.once_in(5) {
+            // As long as an AccessID, the rest zero.
+            id[1] = n as u8 + 1;
+            return id;
+        }
         id[22] = self.rng.byte();
         id[23] = n as u8;
         id
     }
 
     fn transport_ids(&mut self, count: usize) -> Vec<TransportId> {
-        (0..count).map(|n| self.transport_id(n)).collect()
+        let mut ids: Vec<TransportId> = (0..count).map(|n| self.transport_id(n)).collect();
+        if count > 1 && self.rng.once_in(3) {
+            // Two that are alike but for one byte.
+            let at = self.rng.below(24);
+            let mut twin = ids[0];
+            twin[at] ^= if at == 0 { 1 } else { 0x40 };
+            ids[1] = twin;
+        }
+        ids
     }
 
     fn default_luns(&mut self, count: usize) -> Vec<[u8; 8]> {
-        let start = self.rng.byte() & 0x0f;
+        let mask = [0x0f, 0x0f, 0xff][self.rng.below(3)];
+        let start = self.rng.byte() & mask;
         let mut luns: Vec<[u8; 8]> = (0..count as u8)
             .map(|n| lun_bytes(start.wrapping_add(n)))
             .collect();

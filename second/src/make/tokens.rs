@@ -9,11 +9,12 @@ impl Maker {
             return self.act();
         }
         let initiator = self.any_initiator();
-        match self.rng.below(9) {
+        match self.rng.below(10) {
             0 => self.tokens_full(initiator),
             1 => self.proxies_full(initiator),
             2..=4 => self.revoked_with_proxies(initiator),
             5 => self.token_outlives(initiator),
+            6 => self.one_lun_of_two(initiator),
             _ => {
                 self.lone_t_row(initiator, 0);
                 let token = self.token_for(initiator, 0);
@@ -87,6 +88,11 @@ impl Maker {
             self.assign_at(user, either, free);
         }
         let at = lun(self.home(0));
+        if self.rng.once_in(2) {
+            let malformed = self.malformed(self.home(0));
+            self.out(initiator, 8, &malformed.to_be_bytes());
+            self.say("reach 4096");
+        }
         match self.rng.below(5) {
             0 => self.out(initiator, 8, &at.to_be_bytes()),
             1 => self.send_pages(vec![tokens_page(&[token, 0, token])]),
@@ -105,6 +111,23 @@ impl Maker {
         self.reach();
     }
 
+    /// One LUN as proxy LUN of two initiators: each has its own.
+    fn one_lun_of_two(&mut self, initiator: usize) {
+        let other = (initiator + 1) % self.initiators();
+        self.lone_t_row(initiator, 0);
+        let token = self.token_for(initiator, 0);
+        let free = lun(self.free_lun(initiator));
+        self.assign_at(initiator, token, free);
+        self.assign_at(other, token, free);
+        let second = lun(self.free_lun(other));
+        self.assign_at(other, token, second);
+        self.out(other, 0x0a, &free.to_be_bytes());
+        self.say("reach 4096");
+        self.say(&format!("route {initiator} {free:016x}"));
+        self.say(&format!("route {other} {free:016x}"));
+        self.out(other, 0x0a, &free.to_be_bytes());
+    }
+
     /// A token outlives its requester's own access, by whatever LUN it was got.
     fn token_outlives(&mut self, initiator: usize) {
         self.lone_t_row(initiator, 0);
@@ -118,6 +141,7 @@ impl Maker {
         let moved = [self.luacd(at, 1), self.luacd(at.wrapping_add(9), 0)];
         self.send_pages(vec![grant_page(named, false, &moved)]);
         self.say(&format!("route {user} {free:016x}"));
+        self.say("reach 4096");
         let second = self.new_number();
         self.request_with(initiator, lun(at.wrapping_add(9)), second);
         self.send_pages(vec![grant_page(named, false, &[])]);
