@@ -218,6 +218,13 @@ module _ (a b : List ℕ) where
       let y : getD a n 0 ≤ getD b n 0 = ltb-false _ _ (rw (← same-sym a b n, s) at (q .1)) in
       rw (s, eq-eqb (getD a n 0) (getD b n 0) (omega arith))
 
+pub less-not-same : (n : ℕ) (a b : List ℕ) → lessBytes n a b ≡ true → sameBytes n a b ≡ false
+less-not-same n a b e = split (sameBytes n a b) (λ p. clashes e (same-not-less a b n p)) (λ p. p)
+
+pub same-unless : (n : ℕ) (a b : List ℕ) → lessBytes n a b ≡ false → sameBytes n a b ≡ Bool.not (lessBytes n b a)
+same-unless n a b e =
+    split (lessBytes n b a) (λ p. rw p (same-sym a b n ∙ less-not-same n b a p)) (λ p. rw p (less-neither a b n e p))
+
 pub less-irrefl : (n : ℕ) (a : List ℕ) → lessBytes n a a ≡ false
 less-irrefl n a = same-not-less a a n (same-refl n a)
 

@@ -9,9 +9,9 @@ use Rattle.lists.proofs.Members.{map-map}
 use Rattle.lists.proofs.Parts.{length-parts, parts-gather}
 use Rattle.paper.specs.Sizes.{maxAces, maxTokens, maxProxies, maxUnits, maxLuacds, idSize, enrolmentSize}
 use Rattle.paper.specs.Identifiers.{kept}
+use Rattle.paper.specs.Setup.{Setup}
 use Rattle.paper.specs.Contents.{Content, these, everything, Enrolment, notEnrolled, enrolled, pending}
 use Rattle.paper.specs.Tables.{noAce, noToken, noProxy, noLuacd, aceOf, contentOf, enrolmentIn, enrolmentBytes, acesOf, tokensOf, proxiesOf, unitsOf, transportsOf, enrolmentsOf, withAces, withTokens, withProxies, withEnrolments}
-use Rattle.paper.specs.Setup.{Setup}
 use Rattle.paper.specs.Fresh.{fresh}
 use Rattle.paper.specs.declared.state.IdType.{IdType}
 use Rattle.paper.specs.declared.state.IdType.the-variants.{AccessId, TransportId}

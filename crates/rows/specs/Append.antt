@@ -1,12 +1,8 @@
--- Rows appended to a table, one after the other, and the rows that one proxy LUN gives.
+-- Rows appended to a table, one after the other.
 use Prim.Native.Nat.{ℕ, _+_, _≤_}
 use mathlib.Core.List.{List, [], _∷_}
-use mathlib.Core.Bool.{cond}
 use mathlib.Core.Path.{_≡_}
 use lib.ListN.{set}
-use Rattle.paper.specs.Rows.{ownedBy, rowOfProxy}
-use Rattle.paper.specs.declared.state.Token.{Token}
-use Rattle.paper.specs.declared.state.ProxyLun.{ProxyLun}
 use Rattle.paper.specs.declared.state.Row.{Row}
 use Rattle.rows.specs.declared.table.Rows.{Rows}
 
@@ -21,7 +17,3 @@ appended rows (x ∷ l) = appended (pushedRow rows x) l
 pub record Joined (most : ℕ) (rows : Rows) (xs : List Row) (next : Rows) : Type 0 where
   pub is : next ≡ appended rows xs
   pub few : next .count ≤ rows .count + most
-
--- an initiator has a row of a proxy LUN that is its own
-abbrev pub rowsOfProxy : ℕ → List Token → ProxyLun → List Row
-rowsOfProxy i ts p = cond (ownedBy i p) (rowOfProxy ts p) []

@@ -7,7 +7,8 @@ ghost use Rattle.paper.specs.Contents.{allUnits, held};
 ghost use Rattle.paper.specs.Tables.{enrolmentIn, enrolmentOf, contentOf};
 ghost use Rattle.paper.specs.Rows.{contentFor, rowAt, rowsAt, transportRows, enrolmentRows, ownedBy, rowOfProxy, rowsOf};
 ghost use Rattle.rows.specs.Table.{rowTable};
-ghost use Rattle.rows.specs.Append.{pushedRow, Joined, rowsOfProxy};
+ghost use Rattle.paper.specs.declared.state.Ground.the-variants.{GroundX};
+ghost use Rattle.rows.specs.Append.{Joined};
 ghost use Rattle.rows.specs.Initiator.{InSetup};
 use crate::table;
 use crate::table::Rows;
@@ -21,23 +22,13 @@ use paper::state::Luacd;
 use paper::state::ProxyLun;
 use paper::state::ProxyLuns;
 use paper::state::Row;
+use paper::state::Token;
 use paper::state::Tokens;
 use paper::state::Units;
+use tables::enrolments;
 use tables::lookups;
 use tables::lookups::TokenFound;
 use tables::lookups::capped;
-
-// The rows, and one more.
-fn pushed(rows: Rows, x: Row) -> Rows
-    requires { ⌜ rows .count < 96 ⌝ }
-    ensures { λ r. ⌜ r ≡ pushedRow rows x ⌝ }
-{
-    let n = rows.count;
-    let mut next = rows;
-    next.items[n] = x;
-    next.count = n + 1;
-    next
-}
 
 fn row_at(i: u8, g: Ground, p: Luacd) -> Row
     ensures { λ r. ⌜ r ≡ rowAt i g p ⌝ }
@@ -61,8 +52,10 @@ fn with_listed(rows: Rows, i: u8, g: Ground, a: Ace) -> Rows
     let mut next = rows;
     let mut k = 0;
     while k < count {
-        let p = luacds[k];
-        next = pushed(next, row_at(i, g, p));
+        let x = row_at(i, g, luacds[k]);
+        let n = next.count;
+        next.items[n] = x;
+        next.count = n + 1;
         k += 1;
     }
     next
@@ -83,7 +76,10 @@ fn with_units(rows: Rows, i: u8, g: Ground, units: Units) -> Rows
             lun: luns[k],
             unit: k as u8,
         };
-        next = pushed(next, row_at(i, g, p));
+        let x = row_at(i, g, p);
+        let n = next.count;
+        next.items[n] = x;
+        next.count = n + 1;
         k += 1;
     }
     next
@@ -135,24 +131,16 @@ fn with_enrolment(rows: Rows, i: u8, c: Coordinator, e: &[u8]) -> Rows
     rows
 }
 
-// The row of a proxy LUN that is the initiator's own, to the unit of its token.
-fn with_proxy(rows: Rows, i: u8, tokens: Tokens, p: ProxyLun) -> Rows
-    requires { ⌜ rows .count < 96 ⌝ }
-    ensures { λ r. ⌜ Joined 1 rows (rowsOfProxy i (take (tokens .count) (tokens .items)) p) r ⌝ }
+// The row of a proxy LUN, to the unit of its token.
+fn proxy_row(p: ProxyLun, t: Token) -> Row
+    ensures { λ r. ⌜ r ≡ record { initiator = p .initiator; lun = p .lun; unit = t .unit; ground = GroundX } ⌝ }
 {
-    if p.initiator != i {
-        return rows;
-    }
-    let TokenFound::Live(t) = lookups::token_for(tokens, p.token) else {
-        return rows;
-    };
-    let x = Row {
+    Row {
         initiator: p.initiator,
         lun: p.lun,
         unit: t.unit,
         ground: Ground::GroundX,
-    };
-    pushed(rows, x)
+    }
 }
 
 // The rows of the proxy LUNs of an initiator.
@@ -167,8 +155,16 @@ fn with_proxies(rows: Rows, i: u8, tokens: Tokens, proxies: ProxyLuns) -> Rows
     let mut k = 0;
     while k < count {
         let p = items[k];
-        next = with_proxy(next, i, tokens, p);
         k += 1;
+        if p.initiator != i {
+            continue;
+        }
+        let TokenFound::Live(t) = lookups::token_for(tokens, p.token) else {
+            continue;
+        };
+        let n = next.count;
+        next.items[n] = proxy_row(p, t);
+        next.count = n + 1;
     }
     next
 }
@@ -182,8 +178,6 @@ fn with_transport(rows: Rows, i: usize, c: Coordinator) -> Rows
     let units = c.units;
     let initiators = c.initiators;
     let ids = initiators.ids;
-    let from = 24 * i;
-    let to = from + 24;
     with_held(
         rows,
         i as u8,
@@ -191,7 +185,7 @@ fn with_transport(rows: Rows, i: usize, c: Coordinator) -> Rows
         acl,
         units,
         IdType::TransportId,
-        &ids[from..to],
+        enrolments::transport_part(&ids, i),
     )
 }
 
@@ -201,10 +195,8 @@ fn with_access(rows: Rows, i: usize, c: Coordinator) -> Rows
     ensures { λ r. ⌜ Joined 32 rows (enrolmentRows c i (enrolmentOf c i)) r ⌝ }
 {
     let initiators = c.initiators;
-    let enrolments = initiators.enrolments;
-    let from = 25 * i;
-    let to = from + 25;
-    with_enrolment(rows, i as u8, c, &enrolments[from..to])
+    let bytes = initiators.enrolments;
+    with_enrolment(rows, i as u8, c, enrolments::enrolment_part(&bytes, i))
 }
 
 // The rows of an initiator: T, A or W, and X while enabled, and O while disabled.

@@ -49,22 +49,21 @@ pub fn clash_in(rows: Rows) -> bool
     let given = rows.count;
     let count = capped(given, 96);
     let items = rows.items;
-    let mut found = false;
     let mut i = 0;
-    'search: while i < count {
+    while i < count {
         let a = items[i];
-        let mut j = i + 1;
+        let next = i + 1;
+        let mut j = next;
         while j < count {
             let b = items[j];
             if clashing_rows(a, b) {
-                found = true;
-                break 'search;
+                return true;
             }
             j += 1;
         }
-        i += 1;
+        i = next;
     }
-    found
+    false
 }
 
 // Whether an initiator has a clash.

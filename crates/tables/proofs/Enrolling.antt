@@ -7,7 +7,7 @@ use native.Mathlib.Omega.{arith}
 use native.Mathlib.Nat.{add-zero}
 use native.Mathlib.Numerals.{add-one}
 use lib.ListN.{length, getD, set, take, drop, replicate, length-take, length-drop, length-map, length-set, drop-of-length-le, List·getD-map}
-use lib.Seq.{sets, drop-cons, take-all, take-nil, getD-take, getD-drop, drop-drop, getD-set-same, getD-set-other}
+use lib.Seq.{sets, drop-cons, take-all, take-nil, take-take, getD-take, getD-drop, drop-drop, getD-set-same, getD-set-other}
 use lib.Dec.{eqb}
 use borrow.Author.Tests.{eq-eqb, eqb-true}
 use Rattle.lists.specs.Lists.{parts, gather}
@@ -73,6 +73,25 @@ drop-take : (n : ℕ) (l : List ℕ) → drop 1 (take (suc n) l) ≡ take n (dro
 drop-take n [] = sym (take-nil n)
 drop-take n (x ∷ l) = refl
 
+-- the part of one initiator, as the code cuts it: in the bytes, and past their end; and what is read in it
+pub part-in : (size i : ℕ) (bytes : List ℕ) → take (size * i + size - size * i) (drop (size * i) bytes) ≡ take size (drop (size * i) bytes)
+part-in size i bytes = let e : size * i + size - size * i ≡ size = omega arith in rw e
+
+module _ (bytes : List ℕ) (at : ℕ) where
+  pub part-out : (size k : ℕ) → length bytes ≤ k → length bytes ≤ at → take (length bytes - k) (drop k bytes) ≡ take size (drop at bytes)
+  part-out size k h m =
+      rw (drop-of-length-le bytes {i = k} h, drop-of-length-le bytes {i = at} m) (take-nil (length bytes - k) ∙ sym (take-nil size))
+
+  pub stage-in-part : getD (take 25 (drop at bytes)) 0 0 ≡ getD bytes at 0
+  stage-in-part = getD-take 25 (drop at bytes) 0 0 (omega arith) ∙ getD-drop at bytes 0 0 ∙ rw add-zero
+
+  pub transport-in-part : idAt (take 24 (drop at bytes)) 0 ≡ idAt bytes at
+  transport-in-part = rw (take-take 24 24 (drop at bytes) (omega arith))
+
+  pub access-in-part : idAt (take 25 (drop at bytes)) 1 ≡ idAt bytes (at + 1)
+  access-in-part =
+      rw (drop-take 24 (drop at bytes), take-take 24 24 (drop 1 (drop at bytes)) (omega arith), drop-drop 1 at bytes)
+
 module _ (n : ℕ) (bytes : List ℕ) (i : ℕ) where
   pub transport-at : i < n → n ≤ 16 → length bytes ≡ 384 → getD (parts 24 n bytes) i [] ≡ idAt bytes (24 * i)
   transport-at h k e = getD-parts 24 n bytes i [] h ∙ id-in bytes (24 * i) (omega arith)
@@ -80,7 +99,7 @@ module _ (n : ℕ) (bytes : List ℕ) (i : ℕ) where
   pub enrolment-at : i < n → n ≤ 16 → length bytes ≡ 400 → getD (enrolmentsIn n bytes) i notEnrolled ≡ enrolmentAt (getD bytes (25 * i) 0) (idAt bytes (25 * i + 1))
   enrolment-at h k e =
       let part = take 25 (drop (25 * i) bytes) in
-      let stage : getD part 0 0 ≡ getD bytes (25 * i) 0 = getD-take 25 (drop (25 * i) bytes) 0 0 (omega arith) ∙ getD-drop (25 * i) bytes 0 0 ∙ rw add-zero in
+      let stage : getD part 0 0 ≡ getD bytes (25 * i) 0 = stage-in-part bytes (25 * i) in
       let access : drop 1 part ≡ idAt bytes (25 * i + 1) = drop-take 24 (drop (25 * i) bytes) ∙ (rw (drop-drop 1 (25 * i) bytes)) ∙ id-in bytes (25 * i + 1) (omega arith) in
       List·getD-map enrolmentIn (parts 25 n bytes) i [] ∙ rw (getD-parts 25 n bytes i [] h) (rw (← stage, ← access))
 

@@ -2,7 +2,7 @@
 ghost use mathlib.Core.Path.{_≡_};
 ghost use mathlib.Core.List.{[], map};
 ghost use Prim.Native.Nat.{_+_, _*_, _≤_};
-ghost use lib.ListN.{getD};
+ghost use lib.ListN.{getD, take, drop};
 ghost use lib.Seq.{sets};
 ghost use Rattle.lists.specs.Lists.{parts};
 ghost use Rattle.paper.specs.Identifiers.{kept};
@@ -11,6 +11,10 @@ ghost use Rattle.paper.specs.Effects.{suspended, endedUnder};
 ghost use Rattle.paper.specs.declared.state.IdType.the-variants.{AccessId};
 ghost use Rattle.tables.specs.Changes.{changed, changedAt, storedFor, storedBytes, idAt};
 use crate::identifiers;
+use paper::state::ENROLMENT_SIZE;
+use paper::state::ENROLMENTS_SIZE;
+use paper::state::ID_SIZE;
+use paper::state::IDS_SIZE;
 use paper::state::IdType;
 use paper::state::Initiators;
 
@@ -39,15 +43,38 @@ fn id_at(bytes: &[u8], at: usize) -> [u8; 24]
     identifiers::kept_id(IdType::TransportId, &bytes[at..])
 }
 
+// The TransportID of an initiator, in the bytes that hold them all; nothing past the last initiator that there is room for.
+pub fn transport_part(ids: &[u8; IDS_SIZE], i: usize) -> &[u8]
+    ensures { λ r. ⌜ now r ≡ take 24 (drop (24 * i) (now (ids .entry))) ⌝ }
+{
+    let all = &ids[..];
+    if 16 <= i {
+        return &all[IDS_SIZE..];
+    }
+    let from = ID_SIZE * i;
+    let to = from + ID_SIZE;
+    &all[from..to]
+}
+
+// The enrolment of an initiator, in the same way: its stage, then the AccessID.
+pub fn enrolment_part(enrolments: &[u8; ENROLMENTS_SIZE], i: usize) -> &[u8]
+    ensures { λ r. ⌜ now r ≡ take 25 (drop (25 * i) (now (enrolments .entry))) ⌝ }
+{
+    let all = &enrolments[..];
+    if 16 <= i {
+        return &all[ENROLMENTS_SIZE..];
+    }
+    let from = ENROLMENT_SIZE * i;
+    let to = from + ENROLMENT_SIZE;
+    &all[from..to]
+}
+
 // The TransportID of an initiator.
 pub fn transport_of(t: Initiators, i: usize) -> [u8; 24]
     ensures { λ r. ⌜ r ≡ idAt (t .ids) (24 * i) ⌝ }
 {
     let ids = t.ids;
-    if 16 <= i {
-        return [0; 24];
-    }
-    id_at(&ids, 24 * i)
+    id_at(transport_part(&ids, i), 0)
 }
 
 // The stage of an initiator's enrolment.
@@ -55,10 +82,7 @@ pub fn stage_of(t: Initiators, i: usize) -> u8
     ensures { λ r. ⌜ r ≡ getD (t .enrolments) (25 * i) 0 ⌝ }
 {
     let bytes = t.enrolments;
-    if 16 <= i {
-        return 0;
-    }
-    bytes[25 * i]
+    wire::byte(enrolment_part(&bytes, i), 0)
 }
 
 // The AccessID of an initiator's enrolment.
@@ -66,10 +90,7 @@ pub fn access_of(t: Initiators, i: usize) -> [u8; 24]
     ensures { λ r. ⌜ r ≡ idAt (t .enrolments) (25 * i + 1) ⌝ }
 {
     let bytes = t.enrolments;
-    if 16 <= i {
-        return [0; 24];
-    }
-    id_at(&bytes, 25 * i + 1)
+    id_at(enrolment_part(&bytes, i), 1)
 }
 
 fn stored_under(stage: u8, id: &[u8]) -> Stored

@@ -84,13 +84,14 @@ pub fn lun_of(h: u16) -> u64
     (h as u64) * 281474976710656
 }
 
-// Whether two runs agree in their first n bytes.
-pub fn same(a: &[u8], b: &[u8], n: usize) -> bool
+// Whether two runs that have n bytes agree in them.
+fn same_within(a: &[u8], b: &[u8], n: usize) -> bool
+    requires { ⌜ (n ≤ length (now a)) × (n ≤ length (now b)) ⌝ }
     ensures { λ r. ⌜ r ≡ sameBytes n (now (a .entry)) (now (b .entry)) ⌝ }
 {
     let mut k = 0;
     while k < n {
-        if byte(a, k) != byte(b, k) {
+        if a[k] != b[k] {
             return false;
         }
         k += 1;
@@ -112,6 +113,21 @@ pub fn less(a: &[u8], b: &[u8], n: usize) -> bool
         i += 1;
     }
     false
+}
+
+// Whether two runs agree in their first n bytes. Where one is shorter, a byte past its end counts as 0, and neither may be less.
+pub fn same(a: &[u8], b: &[u8], n: usize) -> bool
+    ensures { λ r. ⌜ r ≡ sameBytes n (now (a .entry)) (now (b .entry)) ⌝ }
+{
+    if n <= a.len() {
+        if n <= b.len() {
+            return same_within(a, b, n);
+        }
+    }
+    if less(a, b, n) {
+        return false;
+    }
+    !less(b, a, n)
 }
 
 // Writes b at a place, if that is below the limit and in the buffer. Returns the next place in any case.

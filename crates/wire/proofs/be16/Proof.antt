@@ -1,3 +1,4 @@
+-- Past the end both bytes count as 0; else the two bytes make the number.
 use Rattle.lists.proofs.Bytes.{be-out, be-2}
 use native.Mathlib.Omega.{arith}
 use mathlib.Core.Path.{sym}

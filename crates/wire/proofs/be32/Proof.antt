@@ -1,3 +1,4 @@
+-- Past the end all bytes count as 0; else two numbers of two bytes make one of four.
 use Rattle.lists.proofs.Bytes.{be-out, be-join}
 use native.Mathlib.Omega.{arith}
 use mathlib.Core.Path.{sym}

@@ -1,3 +1,4 @@
+-- Past the end the default is read.
 use lib.ListN.{List·getD-eq-default}
 use mathlib.Core.Path.{sym}
 use denote.Ref.{now}

@@ -1,3 +1,4 @@
+-- The bytes passed agree, so the first that does not decides.
 use Rattle.lists.proofs.Bytes.{same-none, same-more, same-not-less, less-at}
 use Rattle.lists.specs.Bytes.{sameBytes}
 use borrow.Author.Needs.{needs}

@@ -1,3 +1,4 @@
+-- The first two bytes are the quotient, the other six the remainder.
 use borrow.Author.Tests.{ne-eqb, eq-eqb}
 use Rattle.wire.proofs.lun_form.Statement.{statement}
 use Rattle.wire.proofs.lun_form.Tie as tie

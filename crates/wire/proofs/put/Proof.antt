@@ -1,3 +1,4 @@
+-- The byte is written where it is below the limit and in the buffer, and nothing is touched elsewhere.
 use Rattle.wire.proofs.Writing.{wrote-in, wrote-past, wrote-out}
 use borrow.Author.Needs.{needs}
 use Rattle.wire.proofs.put.Statement.{statement}

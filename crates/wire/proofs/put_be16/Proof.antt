@@ -1,3 +1,4 @@
+-- Two bytes, one after the other.
 use Rattle.wire.proofs.Writing.{then}
 use Rattle.lists.specs.Bytes.{beBytes}
 use borrow.Author.Needs.{needs}

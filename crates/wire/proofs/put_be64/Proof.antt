@@ -1,3 +1,4 @@
+-- Two halves, one after the other.
 use Rattle.wire.proofs.Writing.{halves}
 use Rattle.lists.proofs.Bytes.{bytes-length}
 use native.Mathlib.Omega.{arith}

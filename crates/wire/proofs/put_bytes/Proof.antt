@@ -1,3 +1,4 @@
+-- What is left of the source is what is left to be written.
 use Rattle.wire.proofs.Writing.{Left, left-start, left-step, left-end}
 use Rattle.wire.specs.Write.{writes}
 use Rattle.lists.proofs.Walk.{drop-one}

@@ -1,3 +1,4 @@
+-- A LUN is written as the number that its eight bytes make.
 use borrow.Author.Needs.{needs}
 use Rattle.wire.proofs.put_lun.Statement.{statement}
 use Rattle.wire.proofs.put_lun.Tie as tie

@@ -1,4 +1,6 @@
+-- The rows of the LUACDs that are left are those that are yet to be appended.
 use Prim.Native.Nat.{_-_, _≤_}
+use mathlib.Core.Path.{refl}
 use native.Mathlib.Omega.{arith}
 use borrow.Author.Needs.{needs}
 use lib.ListN.{take, drop}
@@ -29,14 +31,16 @@ with-listed-spec =
     (λ c. omega arith)
     (λ c. omega arith)
     (λ c κs. search needs)
-    (λ c κs. omega arith)
+    (λ c. omega arith)
+    (λ c. search needs)
+    (λ c. omega arith)
     (λ c. omega arith)
     (λ c. omega arith)
     (λ c.
-    let a = c .before .before .before in
+    let a = c .before .before in
     let v = a .before .loop .inv in (
       scan-more (v .0) (a .loop-test .taken),
-      append-row (v .1) (c .pushed .ensures) (rw (c .before .row-at .ensures, scan-cons noLuacd (v .0) (a .loop-test .taken))),
+      append-row (v .1) refl (rw (c .row-at .ensures, scan-cons noLuacd (v .0) (a .loop-test .taken))),
       v .2,
     ))
     (λ c.

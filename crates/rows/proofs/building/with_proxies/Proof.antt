@@ -1,4 +1,6 @@
+-- What the proxy LUNs that are left give is yet to be appended; one of another initiator, or of a dead token, gives nothing.
 use Prim.Native.Nat.{_-_, _≤_}
+use mathlib.Core.Path.{sym, _∙_}
 use native.Mathlib.Omega.{arith}
 use borrow.Author.Needs.{needs}
 use lib.ListN.{take, drop}
@@ -6,8 +8,9 @@ use Rattle.lists.specs.Lists.{keep, gather}
 use Rattle.lists.proofs.Walk.{Scan, scan-none, scan-more, scan-cons, scan-nil, length-mapped}
 use Rattle.paper.specs.Tables.{noProxy}
 use Rattle.paper.specs.Rows.{ownedBy, rowOfProxy}
-use Rattle.rows.proofs.Appending.{Appending, append-none, append-some, append-end}
-use Rattle.lists.proofs.Parts.{kept-none, kept-next}
+use Rattle.rows.proofs.Proxies.{anothers, own-dead, own-live}
+use Rattle.rows.proofs.Appending.{Appending, append-none, append-end}
+use Rattle.lists.proofs.Parts.{kept-none}
 use Rattle.rows.proofs.building.with_proxies.Statement.{statement}
 use Rattle.rows.proofs.building.with_proxies.Tie as tie
 
@@ -31,14 +34,41 @@ with-proxies-spec =
     (λ c. (scan-none (search (length-mapped, needs)) (search needs), append-none _ _, search needs))
     (λ c. omega arith)
     (λ c. omega arith)
-    (λ c κs. omega arith)
     (λ c. omega arith)
     (λ c. omega arith)
     (λ c.
-    let a = c .before .before in
+    let a = c .before .before .before in
     let v = a .before .loop .inv in (
       scan-more (v .0) (a .loop-test .taken),
-      append-some (v .1) (c .with-proxy .ensures) (rw (scan-cons noProxy (v .0) (a .loop-test .taken), kept-next)),
+      anothers _ _ (v .1) (scan-cons noProxy (v .0) (a .loop-test .taken)) (c .if1 .taken),
+      v .2,
+    ))
+    (λ c κs. search needs)
+    (λ c. search needs)
+    (λ c. search needs)
+    (λ c. omega arith)
+    (λ c.
+    let found = c .before .before in
+    let own = found .before in
+    let a = own .before .before .before in
+    let v = a .before .loop .inv in (
+      scan-more (v .0) (a .loop-test .taken),
+      own-dead _ _ (v .1) (scan-cons noProxy (v .0) (a .loop-test .taken)) (own .if1 .left) (sym (found .token-for .ensures) ∙ c .enum-told .given .1),
+      v .2,
+    ))
+    (λ c κs. search needs)
+    (λ c. omega arith)
+    (λ c. search needs)
+    (λ c. omega arith)
+    (λ c. omega arith)
+    (λ c.
+    let token = c .before .before in
+    let found = token .before .before in
+    let own = found .before in
+    let a = own .before .before .before in
+    let v = a .before .loop .inv in (
+      scan-more (v .0) (a .loop-test .taken),
+      own-live _ _ (v .1) (scan-cons noProxy (v .0) (a .loop-test .taken)) (own .if1 .left) (sym (found .token-for .ensures) ∙ token .t .given .1) (c .proxy-row .ensures),
       v .2,
     ))
     (λ c.

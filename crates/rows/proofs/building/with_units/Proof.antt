@@ -1,5 +1,7 @@
+-- The rows of the units that are left, numbered on, are those that are yet to be appended.
 use Prim.Native.Nat.{_-_, _≤_}
 use native.Mathlib.Numerals.{add-one}
+use mathlib.Core.Path.{refl}
 use native.Mathlib.Omega.{arith}
 use borrow.Author.Needs.{needs}
 use lib.ListN.{take, drop}
@@ -32,14 +34,16 @@ with-units-spec =
     (λ c. omega arith)
     (λ c. omega arith)
     (λ c κs. search needs)
-    (λ c κs. omega arith)
+    (λ c. omega arith)
+    (λ c. search needs)
+    (λ c. omega arith)
     (λ c. omega arith)
     (λ c. omega arith)
     (λ c.
-    let a = c .before .before in
+    let a = c .before in
     let v = a .before .loop .inv in (
       scan-more (v .0) (a .loop-test .taken),
-      append-row (v .1) (c .pushed .ensures) (rw (c .before .row-at .ensures, scan-cons 0 (v .0) (a .loop-test .taken), add-one)),
+      append-row (v .1) refl (rw (c .row-at .ensures, scan-cons 0 (v .0) (a .loop-test .taken), add-one)),
       v .2,
     ))
     (λ c.

@@ -1,8 +1,9 @@
+-- The first byte of the initiator's part.
+use Prim.Native.Nat.{_*_}
+use mathlib.Core.Path.{ap, _∙_}
 use borrow.Author.Needs.{needs}
-use mathlib.Core.Path.{_≡_, sym}
-use native.Mathlib.Omega.{arith}
-use lib.ListN.{length, List·getD-eq-default}
-use Rattle.lists.proofs.Walk.{length-mapped}
+use lib.ListN.{getD}
+use Rattle.tables.proofs.Enrolling.{stage-in-part}
 use Rattle.tables.proofs.enrolments.stage_of.Statement.{statement}
 use Rattle.tables.proofs.enrolments.stage_of.Tie as tie
 
@@ -10,10 +11,8 @@ pub stage-of-spec : {M : Type 1} → statement M
 stage-of-spec =
     tie.close
     (tie.spec
+    (λ c κs. search needs)
+    (λ c κs. search needs)
     (λ c.
-    let z = c .before .before .args in
-    let long : length (z .t .enrolments) ≡ 400 = search (length-mapped, needs) in
-    sym (List·getD-eq-default (z .t .enrolments) 0 (omega arith)))
-    (λ c. search needs)
-    (λ c. search needs)
-    (λ c. search needs))
+    let z = c .before .before .before .before .args in
+    c .byte .ensures ∙ (ap (λ l. getD l 0 0) (c .before .enrolment-part .ensures) ∙ stage-in-part (z .t .enrolments) (25 * z .i))))

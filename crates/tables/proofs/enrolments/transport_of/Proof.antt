@@ -1,10 +1,9 @@
+-- All 24 bytes of the initiator's part.
 use Prim.Native.Nat.{_*_}
+use mathlib.Core.Path.{ap, _∙_}
 use borrow.Author.Needs.{needs}
-use mathlib.Core.Path.{_≡_}
-use native.Mathlib.Omega.{arith}
-use lib.ListN.{length}
-use Rattle.lists.proofs.Walk.{length-mapped}
-use Rattle.tables.proofs.Enrolling.{id-out}
+use Rattle.tables.specs.Changes.{idAt}
+use Rattle.tables.proofs.Enrolling.{transport-in-part}
 use Rattle.tables.proofs.enrolments.transport_of.Statement.{statement}
 use Rattle.tables.proofs.enrolments.transport_of.Tie as tie
 
@@ -12,11 +11,8 @@ pub transport-of-spec : {M : Type 1} → statement M
 transport-of-spec =
     tie.close
     (tie.spec
-    (λ c.
-    let z = c .before .before .args in
-    let long : length (z .t .ids) ≡ 384 = search (length-mapped, needs) in
-    id-out (z .t .ids) (24 * z .i) (omega arith))
-    (λ c. search needs)
-    (λ c. search needs)
     (λ c κs. search needs)
-    (λ c. search needs))
+    (λ c κs. search needs)
+    (λ c.
+    let z = c .before .before .before .before .args in
+    c .id-at .ensures ∙ (ap (λ l. idAt l 0) (c .before .transport-part .ensures) ∙ transport-in-part (z .t .ids) (24 * z .i))))
