@@ -1,5 +1,6 @@
-# `make test` is the gate; `make check` proves what changed since the last check; `make lists` runs the second program's part alone.
-.PHONY: test check lists fmt
+# `make test` is the gate; `make check` proves what changed since the last check; `make lists` runs the second program's part alone;
+# `make bench` counts what the standing rules cost (docs/PERFORMANCE.md), and is no part of the gate.
+.PHONY: test check lists bench fmt
 
 test:
 	.ci/run
@@ -9,6 +10,9 @@ check:
 
 lists:
 	tests/check-suites
+
+bench:
+	tests/bench
 
 fmt:
 	rt fmt

@@ -1,3 +1,2 @@
-pub mod Luacds
-pub mod Enrolments
-pub mod Initiators
+pub mod Entries
+pub mod Setup

@@ -1,2 +1,1 @@
-pub mod Keeps
-pub mod Twice
+pub mod Tests

@@ -2,37 +2,35 @@
 ghost use mathlib.Core.Path.{_≡_};
 ghost use Prim.Native.Nat.{_≤_};
 ghost use Rattle.paper.specs.Standing.{setupKept, withinSizes, identifiersOnce, presentOnce, luacdsOnce, listsFilled, wellFormed, tokensNonzero, referencesThere, noClash, generationRight, emptyWhileOff, standing};
-use crate::entries;
-use crate::keeps;
-use crate::keeps::AceRule;
-use crate::keeps::ProxyRule;
-use crate::keeps::Rule;
-use crate::keeps::TokenRule;
-use crate::twice;
-use crate::twice::Pairing;
+use crate::aces;
+use crate::aces::AceRule;
+use crate::initiators;
+use crate::proxies;
+use crate::tokens;
+use crate::tokens::TokenRule;
+use crate::units;
 use paper::state::Coordinator;
 use rows::clashes;
-use tables::lookups;
 
 // "a setup rule"
 pub fn setup_kept(c: Coordinator) -> bool
     ensures { λ r. ⌜ r ≡ setupKept c ⌝ }
 {
-    let count = c.initiators.count;
+    let initiators = c.initiators;
     let units = c.units;
-    if 16 < count {
+    if 16 < c.initiators.count {
         return false;
     }
-    if !keeps::each(c, Rule::EachTransport, count) {
+    if !initiators::transports_valid(initiators) {
         return false;
     }
-    if twice::twice(c, Pairing::SameTransport, count) {
+    if !initiators::transports_once(initiators) {
         return false;
     }
-    if !keeps::each(c, Rule::EachDefault, entries::units_in(units)) {
+    if !units::defaults_formed(units) {
         return false;
     }
-    !twice::twice(c, Pairing::SameDefault, entries::units_in(units))
+    units::defaults_once(units)
 }
 
 // "a count over its size"
@@ -48,7 +46,8 @@ pub fn within_sizes(c: Coordinator) -> bool
     if 32 < c.acl.count {
         return false;
     }
-    if !keeps::aces_keep(c, AceRule::FewLuacds) {
+    let acl = c.acl;
+    if !aces::aces_keep(acl, AceRule::FewLuacds) {
         return false;
     }
     if 32 < c.tokens.count {
@@ -62,7 +61,7 @@ pub fn identifiers_once(c: Coordinator) -> bool
     ensures { λ r. ⌜ r ≡ identifiersOnce c ⌝ }
 {
     let acl = c.acl;
-    !twice::twice(c, Pairing::SameIdentifier, entries::aces_in(acl))
+    aces::aces_once(acl)
 }
 
 // "a token or one initiator's proxy LUN present twice"
@@ -71,64 +70,69 @@ pub fn present_once(c: Coordinator) -> bool
 {
     let tokens = c.tokens;
     let proxies = c.proxies;
-    if twice::twice(c, Pairing::SameToken, entries::tokens_in(tokens)) {
+    if !tokens::tokens_once(tokens) {
         return false;
     }
-    !twice::twice(c, Pairing::SameProxy, entries::proxies_in(proxies))
+    proxies::proxies_once(proxies)
 }
 
 // "a LUN or unit twice in one ACE"
 pub fn luacds_once(c: Coordinator) -> bool
     ensures { λ r. ⌜ r ≡ luacdsOnce c ⌝ }
 {
-    keeps::aces_keep(c, AceRule::OnceListed)
+    let acl = c.acl;
+    aces::aces_keep(acl, AceRule::OnceListed)
 }
 
 // "a list without LUACDs"
 pub fn lists_filled(c: Coordinator) -> bool
     ensures { λ r. ⌜ r ≡ listsFilled c ⌝ }
 {
-    keeps::aces_keep(c, AceRule::HoldsSome)
+    let acl = c.acl;
+    aces::aces_keep(acl, AceRule::HoldsSome)
 }
 
 // "a malformed LUN or identifier"
 pub fn well_formed(c: Coordinator) -> bool
     ensures { λ r. ⌜ r ≡ wellFormed c ⌝ }
 {
-    if !keeps::aces_keep(c, AceRule::AceFormed) {
+    let acl = c.acl;
+    let tokens = c.tokens;
+    let proxies = c.proxies;
+    if !aces::aces_keep(acl, AceRule::AceFormed) {
         return false;
     }
-    if !keeps::tokens_keep(c, TokenRule::TokenFormed) {
+    if !tokens::tokens_keep(tokens, TokenRule::TokenFormed) {
         return false;
     }
-    keeps::proxies_keep(c, ProxyRule::ProxyFormed)
+    proxies::proxies_formed(proxies)
 }
 
 // "a zero token"
 pub fn tokens_nonzero(c: Coordinator) -> bool
     ensures { λ r. ⌜ r ≡ tokensNonzero c ⌝ }
 {
-    keeps::tokens_keep(c, TokenRule::Nonzero)
+    let tokens = c.tokens;
+    tokens::tokens_keep(tokens, TokenRule::Nonzero)
 }
 
 // "a reference to an absent unit, initiator, token or enrolled AccessID"
 pub fn references_there(c: Coordinator) -> bool
     ensures { λ r. ⌜ r ≡ referencesThere c ⌝ }
 {
-    if !keeps::aces_keep(c, AceRule::AceRefers) {
+    let acl = c.acl;
+    let tokens = c.tokens;
+    let units = c.units.count;
+    if !aces::aces_keep(acl, AceRule::AceRefers(units)) {
         return false;
     }
-    if !keeps::tokens_keep(c, TokenRule::TokenRefers) {
+    if !tokens::tokens_keep(tokens, TokenRule::TokenRefers(units, c.initiators.count)) {
         return false;
     }
-    if !keeps::proxies_keep(c, ProxyRule::ProxyRefers) {
+    if !proxies::proxies_refer(c) {
         return false;
     }
-    keeps::each(
-        c,
-        Rule::EachEnrolment,
-        lookups::capped(c.initiators.count, 16),
-    )
+    initiators::enrolments_refer(c)
 }
 
 // "a clash", among initiators that are there

@@ -1,0 +1,44 @@
+-- Every ACE passed keeps the rule, and those that are left decide.
+use Prim.Native.Nat.{_-_}
+use native.Mathlib.Omega.{arith}
+use borrow.Author.Needs.{needs}
+use Rattle.lists.proofs.Walk.{length-mapped}
+use Rattle.lists.proofs.Checks.{Each, each-none, each-stop, each-more, each-end}
+use Rattle.standing.specs.Tests.{aceTest}
+use mathlib.Core.List.{[]}
+use Rattle.paper.specs.declared.state.IdType.the-variants.{AccessId}
+use Rattle.paper.specs.declared.state.Extent.the-variants.{Listed}
+use Rattle.paper.specs.declared.state.Ace.{Ace}
+use Rattle.standing.proofs.aces.aces_keep.Statement.{statement}
+use Rattle.standing.proofs.aces.aces_keep.Tie as tie
+
+-- what the logic takes past the end of an array of ACEs
+abbrev past : Ace
+past = record { kind = AccessId; extent = Listed; id = []; count = 0; luacds = [] }
+
+abbrev Inv : tie.InvT-loop
+Inv rule given n items i₀ i = Each (aceTest rule) items 32 given n i
+
+abbrev μ : tie.MeasureT-loop
+μ rule given n items i₀ i = n - i
+
+pub aces-keep-spec : {M : Type 1} → statement M
+aces-keep-spec =
+    tie.close
+    (tie.spec
+    Inv
+    μ
+    (λ c κs. search needs)
+    (λ c. each-none _ (search (length-mapped, needs)) (search needs))
+    (λ c. omega arith)
+    (λ c. omega arith)
+    (λ c κs. search needs)
+    (λ c.
+    let a = c .before .before .before in
+    each-stop (a .before .loop .inv) past (a .loop-test .taken) (c .before .ace-keeps .ensures) (c .if1 .taken))
+    (λ c. omega arith)
+    (λ c. omega arith)
+    (λ c.
+    let a = c .before .before .before in
+    each-more (a .before .loop .inv) past (a .loop-test .taken) (c .before .ace-keeps .ensures) (c .if1 .left))
+    (λ c. each-end (c .before .loop .inv) (c .loop-test .left)))

@@ -1,0 +1,37 @@
+-- Every token passed keeps the rule, and those that are left decide.
+use Prim.Native.Nat.{_-_}
+use native.Mathlib.Omega.{arith}
+use borrow.Author.Needs.{needs}
+use Rattle.lists.proofs.Walk.{length-mapped}
+use Rattle.lists.proofs.Checks.{Each, each-none, each-stop, each-more, each-end}
+use Rattle.paper.specs.Tables.{noToken}
+use Rattle.standing.specs.Tests.{tokenTest}
+use Rattle.standing.proofs.tokens.tokens_keep.Statement.{statement}
+use Rattle.standing.proofs.tokens.tokens_keep.Tie as tie
+
+abbrev Inv : tie.InvT-loop
+Inv rule given n items i₀ i = Each (tokenTest rule) items 32 given n i
+
+abbrev μ : tie.MeasureT-loop
+μ rule given n items i₀ i = n - i
+
+pub tokens-keep-spec : {M : Type 1} → statement M
+tokens-keep-spec =
+    tie.close
+    (tie.spec
+    Inv
+    μ
+    (λ c κs. search needs)
+    (λ c. each-none _ (search (length-mapped, needs)) (search needs))
+    (λ c. omega arith)
+    (λ c. omega arith)
+    (λ c κs. search needs)
+    (λ c.
+    let a = c .before .before .before in
+    each-stop (a .before .loop .inv) noToken (a .loop-test .taken) (c .before .token-keeps .ensures) (c .if1 .taken))
+    (λ c. omega arith)
+    (λ c. omega arith)
+    (λ c.
+    let a = c .before .before .before in
+    each-more (a .before .loop .inv) noToken (a .loop-test .taken) (c .before .token-keeps .ensures) (c .if1 .left))
+    (λ c. each-end (c .before .loop .inv) (c .loop-test .left)))
