@@ -1,6 +1,6 @@
 -- Each TransportID is sought among the later ones for the same one; the pairs of those that are left decide.
-use Prim.Native.Nat.{_+_, _*_, _-_, _≤_}
-use mathlib.Core.Path.{_≡_, ap, sym, _∙_}
+use Prim.Native.Nat.{_+_, _-_, _≤_}
+use mathlib.Core.Path.{ap, sym, _∙_}
 use mathlib.Core.List.{[]}
 use mathlib.Core.Bool.{not}
 use native.Mathlib.Omega.{arith}

@@ -1,3 +1,4 @@
+-- While on, anything goes; while off each of the three in turn.
 use Rattle.lists.proofs.Places.{and-no, and-yes}
 use Rattle.paper.specs.declared.state.Coordinator.{Coordinator}
 use Rattle.paper.specs.Standing.{emptyWhileOff}
