@@ -2,6 +2,8 @@
 use paper::setters;
 use paper::state::Ace;
 use paper::state::Coordinator;
+use paper::state::ENROLMENTS_SIZE;
+use paper::state::IDS_SIZE;
 use paper::state::Luacd;
 use paper::state::ProxyLun;
 use paper::state::Token;
@@ -48,7 +50,7 @@ pub fn proxies_counted(c: Coordinator, n: usize) -> Coordinator {
 // One byte of the TransportIDs.
 pub fn transport_byte(c: Coordinator, place: usize, byte: u8) -> Coordinator {
     let mut t = c.initiators;
-    if place < 384 {
+    if place < IDS_SIZE {
         t.ids[place] = byte;
     }
     setters::with_initiators(c, t)
@@ -57,7 +59,7 @@ pub fn transport_byte(c: Coordinator, place: usize, byte: u8) -> Coordinator {
 // One byte of the enrolments.
 pub fn enrolment_byte(c: Coordinator, place: usize, byte: u8) -> Coordinator {
     let mut t = c.initiators;
-    if place < 400 {
+    if place < ENROLMENTS_SIZE {
         t.enrolments[place] = byte;
     }
     setters::with_initiators(c, t)

@@ -88,13 +88,13 @@ fn listing_16(id: [u8; 24]) -> Ace {
 
 // Three initiators, of which none is enrolled.
 fn initiators() -> Initiators {
-    let mut ids = [0; 384];
+    let mut ids = [0; state::IDS_SIZE];
     ids[47] = 1;
     ids[48] = 1;
     Initiators {
         count: 3,
         ids,
-        enrolments: [0; 400],
+        enrolments: [0; state::ENROLMENTS_SIZE],
     }
 }
 

@@ -10,7 +10,6 @@ use lib.ListN.{length, getD, take, drop, length-append}
 use lib.Seq.{drop-drop, take-add, take-at, drop-at}
 use Rattle.lists.specs.Lists.{_∈_, here, there, any, gather, parts, count, Different, keep}
 use Rattle.lists.proofs.Members.{in-cons, any-append}
-use native.Mathlib.Numerals.{add-one}
 use Rattle.lists.proofs.Tests.{split}
 
 -- ---- the lists that the elements give, one after the other

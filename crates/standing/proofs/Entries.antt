@@ -1,10 +1,10 @@
 -- What an entry holds: nothing in an empty list, and an AccessID in an enrolment of stage 1 or 2.
 use Prim.Native.Nat.{ℕ, zero, suc, _≤_, _<_}
-use mathlib.Core.Path.{_≡_, refl, ap, sym, _∙_}
+use mathlib.Core.Path.{_≡_, refl, sym, _∙_}
 use mathlib.Core.List.{List, [], _∷_}
-use mathlib.Core.Bool.{Bool, true, false, cond, not, _&&_, _||_}
+use mathlib.Core.Bool.{Bool, true, false, cond, _||_}
 use native.Mathlib.Omega.{arith}
-use borrow.Author.Tests.{eq-eqb, ne-eqb}
+use borrow.Author.Tests.{ne-eqb}
 use lib.ListN.{length, getD, take, drop}
 use lib.Dec.{eqb, eqb·suc-zero}
 use Rattle.lists.specs.Lists.{any, all, isSome, parts}
@@ -16,11 +16,16 @@ use Rattle.paper.specs.Tables.{acesOf, enrolmentIn, enrolmentsOf}
 use Rattle.paper.specs.Rows.{isFor, aceFor, hasNumber, tokenFor}
 use Rattle.paper.specs.Standing.{enrolmentRefers}
 use Rattle.paper.specs.declared.state.IdType.the-variants.{AccessId}
+use Rattle.paper.specs.declared.state.Extent.the-variants.{Listed}
 use Rattle.paper.specs.declared.state.Luacd.{Luacd}
 use Rattle.paper.specs.declared.state.Ace.{Ace}
 use Rattle.paper.specs.declared.state.Token.{Token}
 use Rattle.paper.specs.declared.state.Coordinator.{Coordinator}
 use Rattle.standing.specs.Tests.{isEnrolled}
+
+-- what the logic takes past the end of an array of ACEs
+abbrev pub past : Ace
+past = record { kind = AccessId; extent = Listed; id = []; count = 0; luacds = [] }
 
 pub nothing-listed : (n : ℕ) (l : List Luacd) → length l ≡ 16 → holdsNothing (these (take n l)) ≡ eqb n 0
 nothing-listed zero l h = refl

@@ -85,17 +85,11 @@ module _ (bytes : List ℕ) (at : ℕ) where
   pub stage-in-part : getD (take 25 (drop at bytes)) 0 0 ≡ getD bytes at 0
   stage-in-part = getD-take 25 (drop at bytes) 0 0 (omega arith) ∙ getD-drop at bytes 0 0 ∙ rw add-zero
 
-  pub transport-in-part : idAt (take 24 (drop at bytes)) 0 ≡ idAt bytes at
-  transport-in-part = rw (take-take 24 24 (drop at bytes) (omega arith))
-
   pub access-in-part : idAt (take 25 (drop at bytes)) 1 ≡ idAt bytes (at + 1)
   access-in-part =
       rw (drop-take 24 (drop at bytes), take-take 24 24 (drop 1 (drop at bytes)) (omega arith), drop-drop 1 at bytes)
 
 module _ (n : ℕ) (bytes : List ℕ) (i : ℕ) where
-  pub transport-at : i < n → n ≤ 16 → length bytes ≡ 384 → getD (parts 24 n bytes) i [] ≡ idAt bytes (24 * i)
-  transport-at h k e = getD-parts 24 n bytes i [] h ∙ id-in bytes (24 * i) (omega arith)
-
   pub enrolment-at : i < n → n ≤ 16 → length bytes ≡ 400 → getD (enrolmentsIn n bytes) i notEnrolled ≡ enrolmentAt (getD bytes (25 * i) 0) (idAt bytes (25 * i + 1))
   enrolment-at h k e =
       let part = take 25 (drop (25 * i) bytes) in

@@ -13,6 +13,7 @@ use paper::state;
 use paper::state::Ace;
 use paper::state::Acl;
 use paper::state::Extent;
+use paper::state::ID_SIZE;
 use paper::state::IdType;
 use paper::state::Luacd;
 
@@ -69,7 +70,7 @@ pub fn has_ace(acl: Acl, k: IdType, id: &[u8]) -> bool
 }
 
 // An ACE that holds the first LUACDs of an array.
-pub fn listed_ace(k: IdType, id: [u8; 24], luacds: [Luacd; 16], given: usize) -> Ace
+pub fn listed_ace(k: IdType, id: [u8; ID_SIZE], luacds: [Luacd; 16], given: usize) -> Ace
     ensures { λ r. ⌜ r ≡ aceOf k id (these (take given luacds)) ⌝ }
 {
     let count = lookups::capped(given, 16);
@@ -89,7 +90,7 @@ pub fn listed_ace(k: IdType, id: [u8; 24], luacds: [Luacd; 16], given: usize) ->
 }
 
 // An ACE that holds all units, each at its default LUN.
-pub fn all_units_ace(k: IdType, id: [u8; 24]) -> Ace
+pub fn all_units_ace(k: IdType, id: [u8; ID_SIZE]) -> Ace
     ensures { λ r. ⌜ r ≡ aceOf k id everything ⌝ }
 {
     Ace {

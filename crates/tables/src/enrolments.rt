@@ -30,15 +30,15 @@ pub enum Change {
 // One enrolment as its bytes hold it: the stage is 1 enrolled, 2 pending.
 pub struct Stored {
     pub stage: u8,
-    pub id: [u8; 24],
+    pub id: [u8; ID_SIZE],
 }
 
-// The identifier at a place of a run of bytes, all 24 of it.
-fn id_at(bytes: &[u8], at: usize) -> [u8; 24]
+// The identifier at a place of a run of bytes, all of it.
+fn id_at(bytes: &[u8], at: usize) -> [u8; ID_SIZE]
     ensures { λ r. ⌜ r ≡ idAt (now (bytes .entry)) at ⌝ }
 {
     if bytes.len() <= at {
-        return [0; 24];
+        return [0; ID_SIZE];
     }
     identifiers::kept_id(IdType::TransportId, &bytes[at..])
 }
@@ -69,14 +69,6 @@ pub fn enrolment_part(enrolments: &[u8; ENROLMENTS_SIZE], i: usize) -> &[u8]
     &all[from..to]
 }
 
-// The TransportID of an initiator.
-pub fn transport_of(t: Initiators, i: usize) -> [u8; 24]
-    ensures { λ r. ⌜ r ≡ idAt (t .ids) (24 * i) ⌝ }
-{
-    let ids = t.ids;
-    id_at(transport_part(&ids, i), 0)
-}
-
 // The stage of an initiator's enrolment.
 pub fn stage_of(t: Initiators, i: usize) -> u8
     ensures { λ r. ⌜ r ≡ getD (t .enrolments) (25 * i) 0 ⌝ }
@@ -86,7 +78,7 @@ pub fn stage_of(t: Initiators, i: usize) -> u8
 }
 
 // The AccessID of an initiator's enrolment.
-pub fn access_of(t: Initiators, i: usize) -> [u8; 24]
+pub fn access_of(t: Initiators, i: usize) -> [u8; ID_SIZE]
     ensures { λ r. ⌜ r ≡ idAt (t .enrolments) (25 * i + 1) ⌝ }
 {
     let bytes = t.enrolments;
@@ -103,7 +95,7 @@ fn stored_under(stage: u8, id: &[u8]) -> Stored
 }
 
 // An enrolment as it was.
-fn same_stored(stage: u8, access: [u8; 24]) -> Stored
+fn same_stored(stage: u8, access: [u8; ID_SIZE]) -> Stored
     ensures { λ r. ⌜ r ≡ storedFor (enrolmentAt stage access) ⌝ }
 {
     if stage == 1 {
@@ -114,12 +106,12 @@ fn same_stored(stage: u8, access: [u8; 24]) -> Stored
     }
     Stored {
         stage: 0,
-        id: [0; 24],
+        id: [0; ID_SIZE],
     }
 }
 
 // Pending, if it was enrolled.
-fn suspended_stored(stage: u8, access: [u8; 24]) -> Stored
+fn suspended_stored(stage: u8, access: [u8; ID_SIZE]) -> Stored
     ensures { λ r. ⌜ r ≡ storedFor (suspended (enrolmentAt stage access)) ⌝ }
 {
     if stage == 1 {
@@ -129,7 +121,7 @@ fn suspended_stored(stage: u8, access: [u8; 24]) -> Stored
 }
 
 // Not enrolled, if it was under this AccessID.
-fn ended_stored(stage: u8, access: [u8; 24], id: &[u8]) -> Stored
+fn ended_stored(stage: u8, access: [u8; ID_SIZE], id: &[u8]) -> Stored
     ensures { λ r. ⌜ r ≡ storedFor (endedUnder (now (id .entry)) (enrolmentAt stage access)) ⌝ }
 {
     if identifiers::same_id(IdType::AccessId, &access, IdType::AccessId, id) {
@@ -139,7 +131,7 @@ fn ended_stored(stage: u8, access: [u8; 24], id: &[u8]) -> Stored
 }
 
 // The enrolment of initiator i after a change.
-fn changed_stored(change: Change, i: usize, stage: u8, access: [u8; 24], id: &[u8]) -> Stored
+fn changed_stored(change: Change, i: usize, stage: u8, access: [u8; ID_SIZE], id: &[u8]) -> Stored
     ensures { λ r. ⌜ r ≡ storedFor (changedAt change (now (id .entry)) i (enrolmentAt stage access)) ⌝ }
 {
     match change {
@@ -167,7 +159,7 @@ fn changed_stored(change: Change, i: usize, stage: u8, access: [u8; 24], id: &[u
 }
 
 // One enrolment is written at its place.
-fn write_stored(out: &mut [u8; 400], at: usize, e: Stored)
+fn write_stored(out: &mut [u8; ENROLMENTS_SIZE], at: usize, e: Stored)
     requires { ⌜ at + 25 ≤ 400 ⌝ }
     ensures { λ r. ⌜ now (out .exit) ≡ sets (now (out .entry)) at (storedBytes e) ⌝ }
 {
@@ -175,7 +167,7 @@ fn write_stored(out: &mut [u8; 400], at: usize, e: Stored)
     let first = at + 1;
     out[at] = e.stage;
     let mut j = 0;
-    while j < 24 {
+    while j < ID_SIZE {
         out[first + j] = id[j];
         j += 1;
     }
@@ -188,11 +180,11 @@ pub fn enrolments_after(t: Initiators, change: Change, id: &[u8]) -> Initiators
 {
     let count = t.count;
     let ids = t.ids;
-    let mut bytes = [0; 400];
+    let mut bytes = [0; ENROLMENTS_SIZE];
     let mut i = 0;
     while i < count {
         let e = changed_stored(change, i, stage_of(t, i), access_of(t, i), id);
-        write_stored(&mut bytes, 25 * i, e);
+        write_stored(&mut bytes, ENROLMENT_SIZE * i, e);
         i += 1;
     }
     Initiators {
@@ -210,6 +202,6 @@ pub fn nobody_enrolled(t: Initiators) -> Initiators
     Initiators {
         count: t.count,
         ids: ids,
-        enrolments: [0; 400],
+        enrolments: [0; ENROLMENTS_SIZE],
     }
 }

@@ -2,6 +2,7 @@
 ghost use mathlib.Core.Path.{_≡_};
 ghost use Rattle.paper.specs.Identifiers.{typeByte, comparedBytes, sameId, lessId, kept};
 use crate::lookups;
+use paper::state::ID_SIZE;
 use paper::state::IdType;
 
 pub fn type_byte(k: IdType) -> u8
@@ -18,7 +19,7 @@ pub fn compared_bytes(k: IdType) -> usize
 {
     match k {
         IdType::AccessId => 16,
-        IdType::TransportId => 24,
+        IdType::TransportId => ID_SIZE,
     }
 }
 
@@ -48,12 +49,12 @@ pub fn less_id(k: IdType, a: &[u8], l: IdType, b: &[u8]) -> bool
 }
 
 // An identifier as it is kept: the bytes that are compared, and zeros after them.
-pub fn kept_id(k: IdType, id: &[u8]) -> [u8; 24]
+pub fn kept_id(k: IdType, id: &[u8]) -> [u8; ID_SIZE]
     ensures { λ r. ⌜ r ≡ kept k (now (id .entry)) ⌝ }
 {
     let given = compared_bytes(k);
     let count = lookups::capped(given, id.len());
-    let mut bytes = [0; 24];
+    let mut bytes = [0; ID_SIZE];
     let mut i = 0;
     while i < count {
         bytes[i] = id[i];

@@ -1,6 +1,5 @@
 -- A place below 16 is in the list, and a number below 32 and a place make one that fits a byte.
 use Prim.Native.Nat.{_-_, _≤_, _<_}
-use native.Mathlib.Omega.{arith}
 use borrow.Author.Needs.{needs}
 use Rattle.bench.proofs.states.luacds.Statement.{statement}
 use Rattle.bench.proofs.states.luacds.Tie as tie

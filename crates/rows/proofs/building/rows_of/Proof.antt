@@ -1,3 +1,4 @@
+-- While on, the grounds are appended in the order of the definition; while off, the units are.
 use mathlib.Core.Path.{ap}
 use native.Mathlib.Omega.{arith}
 use borrow.Author.Needs.{needs}

@@ -1,3 +1,4 @@
+-- A list gives its LUACDs, everything gives all units.
 use borrow.Author.Needs.{needs}
 use Rattle.rows.proofs.building.with_ace.Statement.{statement}
 use Rattle.rows.proofs.building.with_ace.Tie as tie

@@ -1,3 +1,4 @@
+-- The stage says which ground the AccessID's ACE gives, or that it gives none.
 use borrow.Author.Needs.{needs}
 use borrow.Author.Tests.{eq-eqb, ne-eqb}
 use Rattle.lists.proofs.Pages.{rest-is}

@@ -1,3 +1,4 @@
+-- The place of the identifier's ACE says what it holds; without one it holds nothing.
 use borrow.Author.Needs.{needs}
 use mathlib.Core.List.{[]}
 use Rattle.lists.proofs.Walk.{length-mapped}

@@ -1,3 +1,4 @@
+-- The rows in use of the table are the initiator's rows.
 use borrow.Author.Needs.{needs}
 use mathlib.Core.Path.{_∙_}
 use Rattle.lists.proofs.Tables.{take-pad}

@@ -1,3 +1,4 @@
+-- The three tests are the two ways of clashing, by cases on the LUN and the unit.
 use borrow.Author.Needs.{needs}
 use mathlib.Core.Path.{sym, _∙_}
 use Rattle.rows.proofs.Clashing.{one-lun, two-units, one-unit}

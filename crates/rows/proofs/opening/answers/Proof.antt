@@ -1,3 +1,4 @@
+-- The ground is asked first, then the LUN's eight bytes.
 use borrow.Author.Needs.{needs}
 use mathlib.Core.Path.{sym, _∙_}
 use Rattle.rows.proofs.opening.answers.Statement.{statement}

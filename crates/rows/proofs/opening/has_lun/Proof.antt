@@ -1,3 +1,4 @@
+-- A row of any ground with that LUN is found exactly when some row has it.
 use borrow.Author.Needs.{needs}
 use mathlib.Core.Path.{_∙_}
 use Rattle.rows.specs.Asked.{groundsOf}

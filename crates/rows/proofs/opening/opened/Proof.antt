@@ -1,3 +1,4 @@
+-- The row that opens is looked for first, then W.
 use borrow.Author.Needs.{needs}
 use mathlib.Core.Path.{sym, _∙_}
 use Rattle.rows.proofs.Search.{opens-found, opens-not}

@@ -1,3 +1,4 @@
+-- A W row with that LUN is found exactly when some row is one.
 use borrow.Author.Needs.{needs}
 use mathlib.Core.Path.{_∙_}
 use Rattle.paper.specs.Grounds.{isW}

@@ -1,3 +1,4 @@
+-- An array of blanks is no rows, padded.
 use borrow.Author.Needs.{needs}
 use Rattle.rows.proofs.table.no_rows.Statement.{statement}
 use Rattle.rows.proofs.table.no_rows.Tie as tie

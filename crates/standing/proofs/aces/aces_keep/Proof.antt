@@ -5,16 +5,9 @@ use borrow.Author.Needs.{needs}
 use Rattle.lists.proofs.Walk.{length-mapped}
 use Rattle.lists.proofs.Checks.{Each, each-none, each-stop, each-more, each-end}
 use Rattle.standing.specs.Tests.{aceTest}
-use mathlib.Core.List.{[]}
-use Rattle.paper.specs.declared.state.IdType.the-variants.{AccessId}
-use Rattle.paper.specs.declared.state.Extent.the-variants.{Listed}
-use Rattle.paper.specs.declared.state.Ace.{Ace}
+use Rattle.standing.proofs.Entries.{past}
 use Rattle.standing.proofs.aces.aces_keep.Statement.{statement}
 use Rattle.standing.proofs.aces.aces_keep.Tie as tie
-
--- what the logic takes past the end of an array of ACEs
-abbrev past : Ace
-past = record { kind = AccessId; extent = Listed; id = []; count = 0; luacds = [] }
 
 abbrev Inv : tie.InvT-loop
 Inv rule given n items i₀ i = Each (aceTest rule) items 32 given n i

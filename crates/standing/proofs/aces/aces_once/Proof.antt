@@ -7,16 +7,9 @@ use borrow.Author.Needs.{needs}
 use Rattle.lists.proofs.Walk.{length-mapped}
 use Rattle.lists.proofs.Checks.{Seeking, seek-found, seek-more, seek-end, Pairing, pair-none, pair-seek, pair-found, pair-more, pair-end}
 use Rattle.paper.specs.Standing.{sameAce}
-use mathlib.Core.List.{[]}
-use Rattle.paper.specs.declared.state.IdType.the-variants.{AccessId}
-use Rattle.paper.specs.declared.state.Extent.the-variants.{Listed}
-use Rattle.paper.specs.declared.state.Ace.{Ace}
+use Rattle.standing.proofs.Entries.{past}
 use Rattle.standing.proofs.aces.aces_once.Statement.{statement}
 use Rattle.standing.proofs.aces.aces_once.Tie as tie
-
--- what the logic takes past the end of an array of ACEs
-abbrev past : Ace
-past = record { kind = AccessId; extent = Listed; id = []; count = 0; luacds = [] }
 
 abbrev Inner : tie.InvT-loop2
 Inner given n items i a next j₀ j = Seeking (sameAce a) items 32 given n (i + 1) j

@@ -12,15 +12,9 @@ use Rattle.lists.proofs.Walk.{Scan, scan-none, length-mapped}
 use Rattle.lists.proofs.Checks.{Each, each-none, each-stop, each-more, each-end, Seeking, seek-from, seek-found, seek-more, seek-end}
 use Rattle.paper.specs.Rows.{isFor}
 use Rattle.paper.specs.declared.state.IdType.the-variants.{AccessId}
-use Rattle.paper.specs.declared.state.Extent.the-variants.{Listed}
-use Rattle.paper.specs.declared.state.Ace.{Ace}
-use Rattle.standing.proofs.Entries.{underOne, refers-each, under-off, under-any, enrolled-some}
+use Rattle.standing.proofs.Entries.{past, underOne, refers-each, under-off, under-any, enrolled-some}
 use Rattle.standing.proofs.initiators.enrolments_refer.Statement.{statement}
 use Rattle.standing.proofs.initiators.enrolments_refer.Tie as tie
-
--- what the logic takes past the end of an array of ACEs
-abbrev past : Ace
-past = record { kind = AccessId; extent = Listed; id = []; count = 0; luacds = [] }
 
 abbrev Inner : tie.InvT-loop
 Inner initiators n given m items i e j₀ j = (0 < length e) × Seeking (isFor AccessId (drop 1 e)) items 32 given m 0 j

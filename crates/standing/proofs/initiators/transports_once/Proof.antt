@@ -1,12 +1,12 @@
 -- Each TransportID is sought among the later ones for the same one; the pairs of those that are left decide.
-use Prim.Native.Nat.{_+_, _*_, _-_, _≤_}
-use mathlib.Core.Path.{_≡_, ap, sym, _∙_}
+use Prim.Native.Nat.{_+_, _-_, _≤_}
+use mathlib.Core.Path.{ap, sym, _∙_}
 use mathlib.Core.List.{[]}
 use mathlib.Core.Bool.{not}
 use native.Mathlib.Omega.{arith}
 use borrow.Author.Needs.{needs}
 use lib.ListN.{getD}
-use Rattle.lists.specs.Lists.{pairs, parts}
+use Rattle.lists.specs.Lists.{parts}
 use Rattle.lists.specs.Bytes.{sameBytes}
 use Rattle.lists.proofs.Parts.{length-parts, getD-parts}
 use Rattle.lists.proofs.Places.{both}

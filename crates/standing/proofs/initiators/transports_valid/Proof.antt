@@ -1,10 +1,10 @@
 -- Every TransportID passed is valid, and those that are left decide; the parts are those of a full table.
-use Prim.Native.Nat.{_*_, _-_, _≤_}
-use mathlib.Core.Path.{_≡_, ap, sym, _∙_}
+use Prim.Native.Nat.{_-_, _≤_}
+use mathlib.Core.Path.{ap, sym, _∙_}
 use mathlib.Core.List.{[]}
 use native.Mathlib.Omega.{arith}
 use borrow.Author.Needs.{needs}
-use Rattle.lists.specs.Lists.{all, parts}
+use Rattle.lists.specs.Lists.{parts}
 use Rattle.lists.proofs.Parts.{length-parts, getD-parts}
 use Rattle.lists.proofs.Checks.{Each, each-none, each-stop, each-more, each-end, parts-take}
 use Rattle.paper.specs.Identifiers.{validTransport}

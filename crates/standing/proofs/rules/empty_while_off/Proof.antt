@@ -1,3 +1,4 @@
+-- While on, anything goes; while off each of the three in turn.
 use Rattle.lists.proofs.Places.{and-no, and-yes}
 use Rattle.paper.specs.declared.state.Coordinator.{Coordinator}
 use Rattle.paper.specs.Standing.{emptyWhileOff}
@@ -17,6 +18,15 @@ empty-while-off-spec =
     tie.close
     (tie.spec
     (λ c. ap (λ b. b || empty (c .before .args .c)) (sym (c .if1 .taken)))
-    (λ c. and-no _ refl (ne-eqb _ _ (c .if2 .taken)) ∙ ap (λ b. b || empty (c .before .before .before .args .c)) (sym (c .before .before .if1 .left)))
-    (λ c. and-yes refl (eq-eqb _ _ (c .before .before .if2 .left)) (and-no _ refl (ne-eqb _ _ (c .if3 .taken))) ∙ ap (λ b. b || empty (c .before .before .before .before .before .args .c)) (sym (c .before .before .before .before .if1 .left)))
-    (λ c. and-yes refl (eq-eqb _ _ (c .before .before .before .if2 .left)) (and-yes refl (eq-eqb _ _ (c .before .if3 .left)) refl) ∙ ap (λ b. b || empty (c .before .before .before .before .before .before .args .c)) (sym (c .before .before .before .before .before .if1 .left))))
+    (λ c.
+    let off = c .before .before in
+    and-no _ refl (ne-eqb _ _ (c .if2 .taken)) ∙ ap (λ b. b || empty (off .before .args .c)) (sym (off .if1 .left)))
+    (λ c.
+    let bare = c .before .before in
+    let off = bare .before .before in
+    and-yes refl (eq-eqb _ _ (bare .if2 .left)) (and-no _ refl (ne-eqb _ _ (c .if3 .taken))) ∙ ap (λ b. b || empty (off .before .args .c)) (sym (off .if1 .left)))
+    (λ c.
+    let dead = c .before in
+    let bare = dead .before .before in
+    let off = bare .before .before in
+    and-yes refl (eq-eqb _ _ (bare .if2 .left)) (and-yes refl (eq-eqb _ _ (dead .if3 .left)) refl) ∙ ap (λ b. b || empty (off .before .args .c)) (sym (off .if1 .left))))

@@ -1,3 +1,4 @@
+-- The switch says which number is right.
 use Rattle.paper.specs.Standing.{generationRight}
 use lib.Dec.{eqb}
 use mathlib.Core.Bool.{cond}

@@ -1,3 +1,4 @@
+-- No initiator has a clash.
 use Rattle.paper.specs.Standing.{noClash}
 use mathlib.Core.Bool.{not}
 use mathlib.Core.Path.{ap}

@@ -1,3 +1,4 @@
+-- Each rule in turn: a rule that is broken breaks the whole, and the last one decides.
 use Rattle.lists.proofs.Places.{and-yes, refused}
 use Rattle.paper.proofs.Stood.{stood, counted}
 use Rattle.paper.specs.Standing.{standing}
@@ -13,27 +14,32 @@ standing-spec =
     tie.close
     (tie.spec
     (λ c κs. search needs)
-    (λ c. refused _ (λ s. stood (c .before .before .args .c) s .setup) (c .before .setup-kept .ensures) (c .if1 .taken))
+    (λ c. refused _ (λ s. stood _ s .setup) (c .before .setup-kept .ensures) (c .if1 .taken))
     (λ c κs. search needs)
-    (λ c. refused _ (λ s. stood (c .before .before .before .before .args .c) s .counts) (c .before .within-sizes .ensures) (c .if2 .taken))
+    (λ c. refused _ (λ s. stood _ s .counts) (c .before .within-sizes .ensures) (c .if2 .taken))
     (λ c κs. search needs)
-    (λ c. refused _ (λ s. stood (c .before .before .before .before .before .before .args .c) s .identifiers) (c .before .identifiers-once .ensures) (c .if3 .taken))
+    (λ c. refused _ (λ s. stood _ s .identifiers) (c .before .identifiers-once .ensures) (c .if3 .taken))
     (λ c κs. search needs)
-    (λ c. refused _ (λ s. stood (c .before .before .before .before .before .before .before .before .args .c) s .proxies) (c .before .present-once .ensures) (c .if4 .taken))
+    (λ c. refused _ (λ s. stood _ s .proxies) (c .before .present-once .ensures) (c .if4 .taken))
     (λ c κs. search needs)
-    (λ c. refused _ (λ s. stood (c .before .before .before .before .before .before .before .before .before .before .args .c) s .luacds) (c .before .luacds-once .ensures) (c .if5 .taken))
+    (λ c. refused _ (λ s. stood _ s .luacds) (c .before .luacds-once .ensures) (c .if5 .taken))
     (λ c κs. search needs)
-    (λ c. refused _ (λ s. stood (c .before .before .before .before .before .before .before .before .before .before .before .before .args .c) s .lists) (c .before .lists-filled .ensures) (c .if6 .taken))
+    (λ c. refused _ (λ s. stood _ s .lists) (c .before .lists-filled .ensures) (c .if6 .taken))
     (λ c κs. search needs)
-    (λ c. refused _ (λ s. stood (c .before .before .before .before .before .before .before .before .before .before .before .before .before .before .args .c) s .forms) (c .before .well-formed .ensures) (c .if7 .taken))
+    (λ c. refused _ (λ s. stood _ s .forms) (c .before .well-formed .ensures) (c .if7 .taken))
     (λ c κs. search needs)
-    (λ c. refused _ (λ s. stood (c .before .before .before .before .before .before .before .before .before .before .before .before .before .before .before .before .args .c) s .tokens) (c .before .tokens-nonzero .ensures) (c .if8 .taken))
+    (λ c. refused _ (λ s. stood _ s .tokens) (c .before .tokens-nonzero .ensures) (c .if8 .taken))
     (λ c κs. search needs)
-    (λ c. refused _ (λ s. stood (c .before .before .before .before .before .before .before .before .before .before .before .before .before .before .before .before .before .before .args .c) s .references) (c .before .references-there .ensures) (c .if9 .taken))
-    (λ c κs. counted (c .before .before .before .before .before .before .before .before .before .before .before .before .before .before .before .before .before .before .args .c) (sym (c .before .before .before .before .before .before .before .before .before .before .before .before .before .before .before .within-sizes .ensures) ∙ not-false _ (c .before .before .before .before .before .before .before .before .before .before .before .before .before .before .if2 .left)) .few-initiators)
-    (λ c. refused _ (λ s. stood (c .before .before .before .before .before .before .before .before .before .before .before .before .before .before .before .before .before .before .before .before .args .c) s .clashes) (c .before .no-clash .ensures) (c .if10 .taken))
+    (λ c. refused _ (λ s. stood _ s .references) (c .before .references-there .ensures) (c .if9 .taken))
+    (λ c κs.
+    let tokens = c .before .before .before .before in
+    let lists = tokens .before .before .before .before in
+    let present = lists .before .before .before .before in
+    let sizes = present .before .before in
+    counted (sizes .before .before .before .before .args .c) (sym (sizes .before .within-sizes .ensures) ∙ not-false _ (sizes .if2 .left)) .few-initiators)
+    (λ c. refused _ (λ s. stood _ s .clashes) (c .before .no-clash .ensures) (c .if10 .taken))
     (λ c κs. search needs)
-    (λ c. refused _ (λ s. stood (c .before .before .before .before .before .before .before .before .before .before .before .before .before .before .before .before .before .before .before .before .before .before .args .c) s .generation) (c .before .generation-right .ensures) (c .if11 .taken))
+    (λ c. refused _ (λ s. stood _ s .generation) (c .before .generation-right .ensures) (c .if11 .taken))
     (λ c κs. search needs)
     (λ c. let l = c .before in
     let k = l .before .before in

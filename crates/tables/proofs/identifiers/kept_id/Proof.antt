@@ -1,3 +1,4 @@
+-- The compared bytes are copied into zeros.
 use Prim.Native.Nat.{_-_, _≤_}
 use mathlib.Core.List.{[]}
 use mathlib.Core.Path.{refl, _∙_}

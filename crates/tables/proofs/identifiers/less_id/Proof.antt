@@ -1,3 +1,4 @@
+-- The type decides, and of one type the compared bytes.
 use mathlib.Core.Path.{_∙_}
 use borrow.Author.Needs.{needs}
 use borrow.Author.Tests.{eq-eqb, ne-eqb, lt-ltb, le-ltb}

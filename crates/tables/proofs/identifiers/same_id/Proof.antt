@@ -1,3 +1,4 @@
+-- One type, and the bytes that it compares are the same.
 use borrow.Author.Needs.{needs}
 use borrow.Author.Tests.{eq-eqb, ne-eqb}
 use mathlib.Core.Path.{sym, _∙_}

@@ -1,3 +1,4 @@
+-- The search counts the places that it passes.
 use Prim.Native.Nat.{_-_}
 use mathlib.Core.Path.{_≡_, sym, _∙_}
 use native.Mathlib.Omega.{arith}

@@ -1,3 +1,4 @@
+-- The first token in use with that number is found, or none is left.
 use Prim.Native.Nat.{_-_}
 use mathlib.Core.Path.{_≡_, refl, sym, _∙_}
 use native.Mathlib.Omega.{arith}
