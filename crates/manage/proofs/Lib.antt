@@ -1,0 +1,3 @@
+pub mod Kept
+pub mod Grants
+pub mod EndState

@@ -1,0 +1,2 @@
+// MANAGE ACL: the end state, one table at a time, and the command.
+pub mod live;
