@@ -1,0 +1,2 @@
+// The pages of a MANAGE ACL list: each is read as its own part of the list.
+pub mod page;
