@@ -1,1 +1,2 @@
 pub mod EndState
+pub mod Luacds
