@@ -1,23 +1,29 @@
 -- The effects of a list, one after the other, make the end state, whose tables are built one at a time.
-use Prim.Native.Nat.{ℕ, zero, suc}
+use Prim.Native.Nat.{ℕ, zero, suc, _/_}
 use mathlib.Core.Path.{_≡_, refl, ap, ap₂, sym, _∙_}
-use mathlib.Core.List.{List, [], _∷_, _++_}
+use mathlib.Core.List.{List, [], _∷_, _++_, map}
 use mathlib.Core.Bool.{Bool, true, false, cond}
-use lib.ListN.{getD}
+use lib.ListN.{length, getD}
+use lib.Dec.{eqb, ltb, eqb·suc-zero}
 use native.Mathlib.Omega.{arith}
-use borrow.Author.Tests.{eqb-true, ne-eqb, le-ltb}
-use Rattle.lists.specs.Lists.{pairs, gather}
-use Rattle.lists.proofs.Tests.{split}
-use Rattle.paper.specs.Contents.{Content, these, everything}
+use borrow.Author.Tests.{eqb-true, eq-eqb, ne-eqb, ltb-true, lt-ltb, le-ltb}
+use Rattle.lists.specs.Lists.{any, pairs, gather}
+use Rattle.lists.proofs.Tests.{split, same-test}
+use Rattle.paper.specs.Sizes.{idSize}
+use Rattle.paper.specs.Layouts.{descriptorSize}
+use Rattle.paper.specs.Contents.{Content, these, everything, holdsNothing}
 use Rattle.paper.specs.Tables.{acesOf, coordinatorOf, withSwitch, withInitiators, withAces, unitsOf}
 use Rattle.paper.specs.Effects.{Effect, switched, turnedOn, keyed, enrolling, flushed, endedUnder, suspended, endsEnrolments}
 use Rattle.paper.specs.Applied.{putAce, afterGrant, applied, appliedAll}
-use Rattle.paper.specs.Pages.{newKeyIn, flushIn, acePages, pageType, keptId, nocnclOf, sameGrant, pageLuacds, pageEffects, manageEffects}
+use Rattle.paper.specs.Pages.{newKeyIn, flushIn, acePages, pageType, keptId, nocnclOf, sameGrant, descriptorRun, descriptorsIn, overrules, notOverruled, luacdOf, pageLuacds, pageEffects, manageEffects}
 use Rattle.paper.specs.Standing.{generationRight}
 use Rattle.paper.specs.Commands.{managed}
 use Rattle.paper.specs.declared.state.IdType.{IdType}
+use Rattle.paper.specs.declared.state.IdType.the-variants.{AccessId, TransportId}
+use Rattle.paper.specs.declared.state.Descriptor.{Descriptor}
 use Rattle.paper.specs.declared.state.Coordinator.{Coordinator}
-use Rattle.manage.specs.EndState.{inOrder, enrolledBy, grantOf, endsUnder, initiatorsBy, initiatorsAfter, liveBy, liveAfter, liveOf, aclAfter, endState}
+use Rattle.manage.specs.EndState.{inOrder, enrolledBy, removes, endsAs, endsUnder, initiatorsBy, initiatorsAfter, liveBy, liveAfter, liveOf, aclAfter, endState}
+use Rattle.manage.proofs.Marks.{length-descriptors}
 use Rattle.manage.proofs.Grants.{aclBy, acl-pages}
 
 pub applied-append : (c : Coordinator) (es fs : List Effect) → appliedAll c (es ++ fs) ≡ appliedAll (appliedAll c es) fs
@@ -25,11 +31,35 @@ unfolding appliedAll
 applied-append c [] fs = refl
 applied-append c (e ∷ es) fs = applied-append (applied c e) es fs
 
+-- ---- a page 00h removes exactly if it has no descriptor: the last one always stands
+nothing-stands : (luns : List ℕ) (ds : List Descriptor) → holdsNothing (these (map (luacdOf luns) (notOverruled ds))) ≡ eqb (length ds) 0
+unfolding notOverruled any
+nothing-stands luns [] = refl
+nothing-stands luns (d ∷ []) = refl
+nothing-stands luns (d ∷ (x ∷ xs)) =
+    split (any (overrules d) (x ∷ xs)) 
+    (λ e. rw e (nothing-stands luns (x ∷ xs) ∙ eqb·suc-zero (length xs) ∙ sym (eqb·suc-zero (suc (length xs)))))
+    (λ e. rw (e, eqb·suc-zero))
+
+no-luacds : (luns page : List ℕ) → holdsNothing (these (pageLuacds luns page)) ≡ ltb (length (descriptorRun idSize page)) descriptorSize
+unfolding pageLuacds
+no-luacds luns page =
+    let run = descriptorRun idSize page in
+    nothing-stands luns (descriptorsIn run)
+    ∙ rw (length-descriptors run)
+    (same-test
+    (λ e. lt-ltb (length run) 20 (omega (arith, eqb-true (length run / 20) 0 e)))
+    (λ e. eq-eqb (length run / 20) 0 (omega (arith, ltb-true (length run) 20 e))))
+
+ends-as : (k : IdType) (content : Content) (nocncl : Bool) → endsEnrolments k content nocncl ≡ endsAs k (holdsNothing content) nocncl
+ends-as AccessId content nocncl = refl
+ends-as TransportId content nocncl = refl
+
 -- ---- one page
 module _ (luns : List ℕ) where
   abbrev pageState : List ℕ → Coordinator → Coordinator
   pageState page c =
-      coordinatorOf (c .enabled) (c .generation) (c .key) (initiatorsBy luns page (c .initiators)) (c .units) (aclBy luns page (c .acl))
+      coordinatorOf (c .enabled) (c .generation) (c .key) (initiatorsBy page (c .initiators)) (c .units) (aclBy luns page (c .acl))
       (liveBy page (liveOf c) .tokens) (liveBy page (liveOf c) .proxies)
 
   -- an ACE is put, and where the page ends enrolments they go
@@ -42,15 +72,17 @@ module _ (luns : List ℕ) where
   grant-applied c k id content false = refl
 
   page-applied : (page : List ℕ) (c : Coordinator) → appliedAll c (pageEffects luns page) ≡ pageState page c
-  unfolding appliedAll applied pageEffects initiatorsBy endsUnder aclBy liveBy
+  unfolding appliedAll applied pageEffects initiatorsBy endsUnder removes aclBy liveBy
   page-applied page c = go (getD page 0 0) refl
     where
-      gives : (content : Content) → let b = endsEnrolments (pageType page) content (nocnclOf page) in afterGrant c (pageType page) (keptId page) content b ≡ granting c (pageType page) (keptId page) content b
-      gives content = grant-applied c (pageType page) (keptId page) content (endsEnrolments (pageType page) content (nocnclOf page))
+      gives : (content : Content) (gone : Bool) → holdsNothing content ≡ gone → afterGrant c (pageType page) (keptId page) content (endsEnrolments (pageType page) content (nocnclOf page)) ≡ granting c (pageType page) (keptId page) content (endsAs (pageType page) gone (nocnclOf page))
+      gives content gone q =
+          ap (afterGrant c (pageType page) (keptId page) content) (ends-as (pageType page) content (nocnclOf page) ∙ ap (λ g. endsAs (pageType page) g (nocnclOf page)) q)
+          ∙ grant-applied c (pageType page) (keptId page) content (endsAs (pageType page) gone (nocnclOf page))
 
       go : (n : ℕ) → getD page 0 0 ≡ n → appliedAll c (pageEffects luns page) ≡ pageState page c
-      go zero e = rw e (gives (these (pageLuacds luns page)))
-      go (suc zero) e = rw e (gives everything)
+      go zero e = rw e (gives (these (pageLuacds luns page)) _ (no-luacds luns page))
+      go (suc zero) e = rw e (gives everything false refl)
       go (suc (suc zero)) e = rw e
       go (suc (suc (suc zero))) e = rw e
       go (suc (suc (suc (suc n)))) e =
@@ -58,7 +90,7 @@ module _ (luns : List ℕ) where
           rw (e, ne-eqb m 0 (λ q. omega arith), ne-eqb m 1 (λ q. omega arith), ne-eqb m 2 (λ q. omega arith), ne-eqb m 3 (λ q. omega arith), le-ltb m 2 (omega arith))
 
   -- ---- the pages, in order
-  pages-applied : (pages : List (List ℕ)) (c : Coordinator) → appliedAll c (gather (pageEffects luns) pages) ≡ coordinatorOf (c .enabled) (c .generation) (c .key) (inOrder (initiatorsBy luns) pages (c .initiators)) (c .units) (inOrder (aclBy luns) pages (c .acl)) (inOrder liveBy pages (liveOf c) .tokens) (inOrder liveBy pages (liveOf c) .proxies)
+  pages-applied : (pages : List (List ℕ)) (c : Coordinator) → appliedAll c (gather (pageEffects luns) pages) ≡ coordinatorOf (c .enabled) (c .generation) (c .key) (inOrder initiatorsBy pages (c .initiators)) (c .units) (inOrder (aclBy luns) pages (c .acl)) (inOrder liveBy pages (liveOf c) .tokens) (inOrder liveBy pages (liveOf c) .proxies)
   unfolding gather inOrder appliedAll
   pages-applied [] c = refl
   pages-applied (page ∷ pages) c =

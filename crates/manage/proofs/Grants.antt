@@ -93,7 +93,7 @@ module _ (luns : List ℕ) where
       ap (λ l. l ++ rest) left ∙ append-assoc others new rest ∙ ap (λ l. others ++ (l ++ rest)) put
 
   -- no page puts an ACE
-  aces-none : (pages : List (List ℕ)) (aces : List Ace) → any isGrant pages ≡ false → acesAfter luns pages aces ≡ aces
+  pub aces-none : (pages : List (List ℕ)) (aces : List Ace) → any isGrant pages ≡ false → acesAfter luns pages aces ≡ aces
   unfolding acesAfter any gather
   aces-none [] aces h = append-nil _ ∙ all-stay aces
   aces-none (page ∷ pages) aces h =

@@ -2,3 +2,6 @@ pub mod Kept
 pub mod Marks
 pub mod Grants
 pub mod EndState
+pub mod InOrder
+pub mod Put
+pub mod Room

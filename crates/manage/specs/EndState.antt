@@ -1,19 +1,21 @@
 -- The end state of MANAGE ACL, one table at a time. That it is what the effects make of the coordinator, one after the other, is a law (proofs/EndState).
 use Prim.Native.Nat.{ℕ}
 use mathlib.Core.List.{List, [], _∷_, _++_, map}
-use mathlib.Core.Bool.{Bool, true, cond, not, _&&_, _||_}
+use mathlib.Core.Bool.{Bool, true, false, cond, not, _&&_, _||_}
 use lib.ListN.{length, take}
 use lib.Dec.{eqb, ltb}
 use Rattle.lists.specs.Lists.{any, keep, parts, gather}
 use Rattle.paper.specs.Sizes.{maxAces, idSize, enrolmentSize}
+use Rattle.paper.specs.Layouts.{descriptorSize}
 use Rattle.paper.specs.Identifiers.{sameId}
 use Rattle.paper.specs.Contents.{Content, these, everything, holdsNothing, Enrolment}
 use Rattle.paper.specs.Tables.{aceOf, enrolmentIn, aclOf, tokenTable, proxyTable, enrolmentTable, coordinatorOf, unitsOf}
-use Rattle.paper.specs.Effects.{Ending, listed, allTokens, suspended, endedUnder, endsEnrolments, outlives}
+use Rattle.paper.specs.Effects.{Ending, listed, allTokens, suspended, endedUnder, outlives}
 use Rattle.paper.specs.Applied.{keptBy}
-use Rattle.paper.specs.Pages.{newKeyIn, flushIn, acePages, pageCode, nocnclOf, pageType, pageId, keptId, pageLuacds, isGrant, tokensIn}
+use Rattle.paper.specs.Pages.{newKeyIn, flushIn, acePages, pageCode, nocnclOf, pageType, pageId, keptId, descriptorRun, pageLuacds, isGrant, tokensIn}
 use Rattle.paper.specs.Commands.{manyLuacds}
 use Rattle.paper.specs.declared.state.IdType.{IdType}
+use Rattle.paper.specs.declared.state.IdType.the-variants.{AccessId, TransportId}
 use Rattle.paper.specs.declared.state.Ace.{Ace}
 use Rattle.paper.specs.declared.state.Acl.{Acl}
 use Rattle.paper.specs.declared.state.Initiators.{Initiators}
@@ -30,21 +32,25 @@ abbrev pub enrolledBy : (Enrolment → Enrolment) → Initiators → Initiators
 enrolledBy f t =
     record { count = t .count; ids = t .ids; enrolments = enrolmentTable (map f (map enrolmentIn (parts enrolmentSize (t .count) (t .enrolments)))) }
 
--- what a grant page gives its identifier
-abbrev pub grantOf : List ℕ → List ℕ → Content
-grantOf luns page = cond (eqb (pageCode page) 0x00) (these (pageLuacds luns page)) everything
+-- "with no LUACD it removes it (H)": a page 00h without descriptors
+unfoldable pub removes : List ℕ → Bool
+removes page = eqb (pageCode page) 0x00 && ltb (length (descriptorRun idSize page)) descriptorSize
 
--- whether a page ends the enrolments under its AccessID
-unfoldable pub endsUnder : List ℕ → List ℕ → Bool
-endsUnder luns page = isGrant page && endsEnrolments (pageType page) (grantOf luns page) (nocnclOf page)
+-- "A page that removes an AccessID's ACE, or replaces it with NOCNCL 0, ends every enrolment under it."
+abbrev pub endsAs : IdType → Bool → Bool → Bool
+endsAs TransportId gone nocncl = false
+endsAs AccessId gone nocncl = gone || not nocncl
 
-unfoldable pub initiatorsBy : List ℕ → List ℕ → Initiators → Initiators
-initiatorsBy luns page t = cond (endsUnder luns page) (enrolledBy (endedUnder (keptId page)) t) t
+unfoldable pub endsUnder : List ℕ → Bool
+endsUnder page = isGrant page && endsAs (pageType page) (removes page) (nocnclOf page)
+
+unfoldable pub initiatorsBy : List ℕ → Initiators → Initiators
+initiatorsBy page t = cond (endsUnder page) (enrolledBy (endedUnder (keptId page)) t) t
 
 -- "FLUSH turns every enrolled initiator pending, and pages apply in order"
-unfoldable pub initiatorsAfter : List ℕ → List ℕ → Initiators → Initiators
-initiatorsAfter luns list t =
-    inOrder (initiatorsBy luns) (acePages list) (cond (flushIn list) (enrolledBy suspended t) t)
+unfoldable pub initiatorsAfter : List ℕ → Initiators → Initiators
+initiatorsAfter list t =
+    inOrder initiatorsBy (acePages list) (cond (flushIn list) (enrolledBy suspended t) t)
 
 -- ---- tokens and proxy LUNs
 abbrev pub leftBy : Ending → Live → Live
@@ -64,6 +70,10 @@ abbrev pub liveOf : Coordinator → Live
 liveOf c = record { tokens = c .tokens; proxies = c .proxies }
 
 -- ---- ACEs: those that no page names, and then those that the pages put, in their order
+-- what a grant page gives its identifier
+abbrev pub grantOf : List ℕ → List ℕ → Content
+grantOf luns page = cond (eqb (pageCode page) 0x00) (these (pageLuacds luns page)) everything
+
 -- a grant page for an identifier
 unfoldable pub namesId : IdType → List ℕ → List ℕ → Bool
 namesId k id page = isGrant page && sameId k id (pageType page) (pageId idSize page)
@@ -93,5 +103,5 @@ crowded aces = ltb maxAces (length aces) || any manyLuacds aces
 -- ---- all of it
 unfoldable pub endState : Coordinator → List ℕ → Coordinator
 endState c list =
-    coordinatorOf true 1 (newKeyIn list) (initiatorsAfter (unitsOf c) list (c .initiators)) (c .units)
+    coordinatorOf true 1 (newKeyIn list) (initiatorsAfter list (c .initiators)) (c .units)
     (aclAfter (unitsOf c) (acePages list) (c .acl)) (liveAfter list (liveOf c) .tokens) (liveAfter list (liveOf c) .proxies)

@@ -1,3 +1,5 @@
 // MANAGE ACL: the end state, one table at a time, and the command.
+pub mod aces;
+pub mod enrolments;
 pub mod live;
 pub mod luacds;
