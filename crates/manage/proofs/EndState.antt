@@ -22,7 +22,7 @@ use Rattle.paper.specs.declared.state.IdType.{IdType}
 use Rattle.paper.specs.declared.state.IdType.the-variants.{AccessId, TransportId}
 use Rattle.paper.specs.declared.state.Descriptor.{Descriptor}
 use Rattle.paper.specs.declared.state.Coordinator.{Coordinator}
-use Rattle.manage.specs.EndState.{inOrder, enrolledBy, removes, endsAs, endsUnder, initiatorsBy, initiatorsAfter, liveBy, liveAfter, liveOf, aclAfter, endState}
+use Rattle.manage.specs.EndState.{inOrder, enrolledBy, removes, endsAs, endsUnder, initiatorsBy, initiatorsAfter, liveBy, liveAfter, liveOf, aclAfter, endWith, endState}
 use Rattle.manage.proofs.Marks.{length-descriptors}
 use Rattle.manage.proofs.Grants.{aclBy, acl-pages}
 
@@ -37,7 +37,7 @@ unfolding notOverruled any
 nothing-stands luns [] = refl
 nothing-stands luns (d ∷ []) = refl
 nothing-stands luns (d ∷ (x ∷ xs)) =
-    split (any (overrules d) (x ∷ xs)) 
+    split (any (overrules d) (x ∷ xs))
     (λ e. rw e (nothing-stands luns (x ∷ xs) ∙ eqb·suc-zero (length xs) ∙ sym (eqb·suc-zero (suc (length xs)))))
     (λ e. rw (e, eqb·suc-zero))
 
@@ -117,7 +117,7 @@ flush-applied c false = refl
 
 -- ---- all of it
 pub end-state : (c : Coordinator) (list : List ℕ) → generationRight c ≡ true → pairs sameGrant (acePages list) ≡ false → managed c list ≡ endState c list
-unfolding manageEffects endState initiatorsAfter liveAfter
+unfolding manageEffects endWith initiatorsAfter liveAfter
 end-state c list g h =
     let luns = unitsOf c in
     let pages = gather (pageEffects luns) (acePages list) in

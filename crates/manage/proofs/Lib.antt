@@ -5,3 +5,4 @@ pub mod EndState
 pub mod InOrder
 pub mod Put
 pub mod Room
+pub mod Phases

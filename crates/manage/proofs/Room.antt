@@ -21,7 +21,7 @@ use Rattle.paper.specs.declared.state.Ace.{Ace}
 use Rattle.paper.specs.declared.state.Acl.{Acl}
 use Rattle.paper.specs.declared.state.Coordinator.{Coordinator}
 use Rattle.manage.specs.declared.aces.Aces.{Aces}
-use Rattle.manage.specs.EndState.{unnamed, newAces, acesAfter, aclAfter, crowded, endState}
+use Rattle.manage.specs.EndState.{unnamed, newAces, acesAfter, aclAfter, crowded, endWith, endState}
 use Rattle.manage.specs.Aces.{Uncrowded, Sized, fitting, fitted, fittedAfter}
 use Rattle.manage.proofs.Grants.{aces-none}
 
@@ -73,28 +73,31 @@ module _ (acl : Acl) (s : Sized acl) where
         (λ e. rw (e, take-pad noAce maxAces after))
         (λ e. rw (e, aces-none luns pages (acesIn acl) e, le-ltb 32 (acl .count) (s .few), none-many, le-ltb 32 (length (acesIn acl)) in-room))
 
+    -- the ACEs do not fit
     pub no-fit : {x : Aces} → x ≡ fittedAfter luns pages acl → not (x .fits) ≡ true → crowded (acesAfter luns pages (acesIn acl)) ≡ true
     unfolding fittedAfter
-    no-fit e h =
-        split
-        (crowded (acesAfter luns pages (acesIn acl)))
-        (λ t. t)
-        (λ t. clashes (sym (ap (λ y. not (y .fits)) (e ∙ rw t)) ∙ h) refl)
+    no-fit {x} e h = split (crowded (acesAfter luns pages (acesIn acl))) (λ t. t) (λ t. clashes h (fits t))
+      where
+        fits : crowded (acesAfter luns pages (acesIn acl)) ≡ false → not (x .fits) ≡ false
+        fits t = ap (λ y. not (y .fits)) e ∙ rw t
 
-    -- the ACEs fit
+    -- they fit
     pub record Fit (next : Acl) : Type 0 where
       pub fits : crowded (acesAfter luns pages (acesIn acl)) ≡ false
       pub is : next ≡ aclAfter luns pages acl
 
     pub fit : {x : Aces} → x ≡ fittedAfter luns pages acl → not (x .fits) ≡ false → Fit (x .acl)
     unfolding fittedAfter
-    fit e h =
+    fit {x} e h =
         split
         (crowded (acesAfter luns pages (acesIn acl)))
-        (λ t. clashes refl (sym (ap (λ y. not (y .fits)) (e ∙ rw t)) ∙ h))
-        (λ t. record { fits = t; is = ap (λ y. y .acl) (e ∙ rw t) })
+        (λ t. let full : not (x .fits) ≡ true = ap (λ y. not (y .fits)) e ∙ rw t in clashes full h)
+        (λ t. record { fits = t; is = ap (λ y. y .acl) e ∙ rw t })
+
+pub sized : {c : Coordinator} → Counted c → Sized (c .acl)
+sized h = record { few = h .few-aces; small = h .few-luacds }
 
 pub too-many : (c : Coordinator) (list : List ℕ) → Counted c → tooMany (endState c list) ≡ crowded (acesAfter (unitsOf c) (acePages list) (acesOf c))
-unfolding tooMany endState
+unfolding tooMany endWith
 too-many c list h =
-    many-after (c .acl) (record { few = h .few-aces; small = h .few-luacds }) (unitsOf c) (acePages list)
+    many-after (c .acl) (sized h) (unitsOf c) (acePages list)

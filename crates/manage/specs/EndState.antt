@@ -101,7 +101,10 @@ unfoldable pub crowded : List Ace → Bool
 crowded aces = ltb maxAces (length aces) || any manyLuacds aces
 
 -- ---- all of it
-unfoldable pub endState : Coordinator → List ℕ → Coordinator
-endState c list =
-    coordinatorOf true 1 (newKeyIn list) (initiatorsAfter list (c .initiators)) (c .units)
-    (aclAfter (unitsOf c) (acePages list) (c .acl)) (liveAfter list (liveOf c) .tokens) (liveAfter list (liveOf c) .proxies)
+unfoldable pub endWith : Coordinator → List ℕ → Acl → Coordinator
+endWith c list acl =
+    coordinatorOf true 1 (newKeyIn list) (initiatorsAfter list (c .initiators)) (c .units) acl
+    (liveAfter list (liveOf c) .tokens) (liveAfter list (liveOf c) .proxies)
+
+abbrev pub endState : Coordinator → List ℕ → Coordinator
+endState c list = endWith c list (aclAfter (unitsOf c) (acePages list) (c .acl))

@@ -71,7 +71,11 @@ fn put_by(luns: &[u16], page: &[u8]) -> Put
     let id = identifiers::kept_id(k, page::page_id(page));
     let code = page::page_code(page);
     match code {
-        0x00 => put_listed(k, id, luacds::standing_luacds(luns, page::descriptors(page))),
+        0x00 => put_listed(
+            k,
+            id,
+            luacds::standing_luacds(luns, page::descriptors(page)),
+        ),
         0x01 => Put {
             puts: true,
             fits: true,

@@ -4,7 +4,8 @@ ghost use Prim.Native.Nat.{_≤_};
 ghost use Rattle.lists.specs.Pages.{pagesOf};
 ghost use Rattle.paper.specs.Effects.{endedUnder};
 ghost use Rattle.paper.specs.Pages.{keptId};
-ghost use Rattle.manage.specs.EndState.{inOrder, enrolledBy, removes, endsUnder, initiatorsBy};
+ghost use Rattle.manage.specs.EndState.{inOrder, enrolledBy, removes, endsUnder, initiatorsBy, initiatorsAfter};
+use pages::header;
 use pages::page;
 use paper::state::Initiators;
 use tables::enrolments;
@@ -47,7 +48,7 @@ fn ended_under(t: Initiators, page: &[u8]) -> Initiators
 }
 
 // The enrolments after the pages, in their order.
-pub fn initiators_by_pages(t: Initiators, pages: &[u8]) -> Initiators
+fn initiators_by_pages(t: Initiators, pages: &[u8]) -> Initiators
     requires { ⌜ t .count ≤ 16 ⌝ }
     ensures { λ r. ⌜ r ≡ inOrder initiatorsBy (pagesOf (now (pages .entry))) t ⌝ }
 {
@@ -62,4 +63,17 @@ pub fn initiators_by_pages(t: Initiators, pages: &[u8]) -> Initiators
         rest = later;
     }
     next
+}
+
+// "FLUSH turns every enrolled initiator pending, and pages apply in order".
+pub fn initiators_after(t: Initiators, list: &[u8]) -> Initiators
+    requires { ⌜ t .count ≤ 16 ⌝ }
+    ensures { λ r. ⌜ r ≡ initiatorsAfter (now (list .entry)) t ⌝ }
+{
+    let pages = header::pages_in(list);
+    if header::flush_in(list) {
+        let pending = enrolments::enrolments_after(t, Change::Flushed, list);
+        return initiators_by_pages(pending, pages);
+    }
+    initiators_by_pages(t, pages)
 }

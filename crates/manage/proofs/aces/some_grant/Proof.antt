@@ -1,18 +1,14 @@
--- The pages that are left decide.
-use mathlib.Core.Path.{_≡_, refl, sym, _∙_}
+-- The pages that are left decide: the first that passes ends the walk.
 use borrow.Author.Needs.{needs}
 use lib.ListN.{length}
-use Rattle.lists.specs.Lists.{any}
 use Rattle.lists.specs.Pages.{pagesOf}
-use Rattle.lists.proofs.Places.{any-step, any-stop, any-end}
-use Rattle.lists.proofs.Pages.{pages-end}
-use Rattle.pages.proofs.Walking.{pages-turn, pages-less}
+use Rattle.pages.proofs.Walking.{pages-less, Asking, walk-rest, walk-stop, walk-on, walk-end}
 use Rattle.paper.specs.Pages.{isGrant}
 use Rattle.manage.proofs.aces.some_grant.Statement.{statement}
 use Rattle.manage.proofs.aces.some_grant.Tie as tie
 
 abbrev Inv : tie.InvT-loop
-Inv pages rest₀ rest = any isGrant (pagesOf pages) ≡ any isGrant (pagesOf rest)
+Inv pages rest₀ rest = Asking isGrant (pagesOf pages) rest
 
 abbrev μ : tie.MeasureT-loop
 μ pages rest₀ rest = length rest
@@ -23,18 +19,17 @@ some-grant-spec =
     (tie.spec
     Inv
     μ
-    (λ c. refl)
+    (λ c. walk-rest _ _)
     (λ c κs. search needs)
     (λ c κs. search needs)
     (λ c.
-    let g = c .before in
-    let t = g .before .before in
-    sym (t .before .loop .inv ∙ any-stop _ (pages-turn _ (t .loop-test .taken) refl (g .before .first-page .ensures)) (g .is-grant .ensures) (c .if1 .taken)))
+    let asked = c .before in
+    let turn = asked .before .before in
+    walk-stop (turn .before .loop .inv) (turn .loop-test .taken) (asked .before .first-page .ensures) (asked .is-grant .ensures) (c .if1 .taken))
     (λ c κs. search needs)
-    (λ c. pages-less _ (c .before .before .before .before .loop-test .taken) (c .after-page .ensures))
+    (λ c. let turn = c .before .before .before .before in pages-less _ (turn .loop-test .taken) (c .after-page .ensures))
     (λ c.
-    let i = c .before in
-    let g = i .before in
-    let t = g .before .before in
-    t .before .loop .inv ∙ any-step _ (pages-turn _ (t .loop-test .taken) (c .after-page .ensures) (g .before .first-page .ensures)) (g .is-grant .ensures) (i .if1 .left))
-    (λ c. sym (c .before .loop .inv ∙ any-end (pages-end _ (c .loop-test .left)) _)))
+    let asked = c .before .before in
+    let turn = asked .before .before in
+    walk-on (turn .before .loop .inv) (turn .loop-test .taken) (asked .before .first-page .ensures) (asked .is-grant .ensures) (c .before .if1 .left) (c .after-page .ensures))
+    (λ c. walk-end (c .before .loop .inv) (c .loop-test .left)))
