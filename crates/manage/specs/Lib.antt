@@ -1,0 +1,3 @@
+pub mod EndState
+pub mod Luacds
+pub mod Aces

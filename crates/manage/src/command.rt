@@ -1,0 +1,110 @@
+// MANAGE ACL: the six phases over the whole list, the first that fails answering, and the end state.
+ghost use mathlib.Core.Path.{_≡_};
+ghost use mathlib.Core.List.{[]};
+ghost use mathlib.Core.Bool.{true, not, _&&_};
+ghost use Prim.Native.Nat.{_≤_};
+ghost use lib.ListN.{take};
+ghost use lib.Dec.{eqb};
+ghost use Rattle.paper.specs.Tables.{unitsOf};
+ghost use Rattle.paper.specs.Standing.{standing};
+ghost use Rattle.paper.specs.Pages.{keyIn, acePages, manageEffects};
+ghost use Rattle.paper.specs.Commands.{manageTests};
+ghost use Rattle.paper.specs.Outcomes.{check, good, judged, outcomeOf};
+ghost use Rattle.manage.specs.EndState.{endWith};
+ghost use Rattle.manage.specs.Aces.{Sized, fittedAfter};
+use crate::aces;
+use crate::aces::Aces;
+use crate::enrolments;
+use crate::live;
+use crate::live::Live;
+use pages::form;
+use pages::header;
+use pages::places;
+use pages::whole;
+use paper::answers::Answer;
+use paper::answers::Condition;
+use paper::outcomes;
+use paper::outcomes::Outcome;
+use paper::setters;
+use paper::state::Acl;
+use paper::state::Coordinator;
+use paper::state::Units;
+use rows::clashes;
+
+// "enabled, and the key differs. Disabled: key ignored."
+fn wrong_key(enabled: bool, key: u64, list: &[u8]) -> bool
+    ensures { λ r. ⌜ r ≡ enabled && not (eqb (keyIn (now (list .entry))) key) ⌝ }
+{
+    if !enabled {
+        return false;
+    }
+    header::key_in(list) != key
+}
+
+// The ACL after the list, if it has room for it.
+fn managed_aces(acl: Acl, units: Units, list: &[u8]) -> Aces
+    requires { ⌜ (Sized acl) × (units .count ≤ 32) ⌝ }
+    ensures { λ r. ⌜ r ≡ fittedAfter (take (units .count) (units .luns)) (acePages (now (list .entry))) acl ⌝ }
+{
+    let count = units.count;
+    let luns = units.luns;
+    aces::aces_after(acl, &luns[..count], header::pages_in(list))
+}
+
+// The end state, with its ACL.
+fn end_with(c: Coordinator, list: &[u8], acl: Acl) -> Coordinator
+    requires { ⌜ c .initiators .count ≤ 16 ⌝ }
+    ensures { λ r. ⌜ r ≡ endWith c (now (list .entry)) acl ⌝ }
+{
+    let ts = c.tokens;
+    let ps = c.proxies;
+    let before = Live {
+        tokens: ts,
+        proxies: ps,
+    };
+    let left = live::live_after(before, header::pages_in(list));
+    let tokens = left.tokens;
+    let proxies = left.proxies;
+    let t = c.initiators;
+    let initiators = enrolments::initiators_after(t, list);
+    let on = setters::with_switch(c, true, 1, header::new_key_in(list));
+    let granted = setters::with_acl(setters::with_initiators(on, initiators), acl);
+    setters::with_proxies(setters::with_tokens(granted, tokens), proxies)
+}
+
+fn refused(c: Coordinator, k: Condition) -> Outcome
+    ensures { λ r. ⌜ r ≡ outcomeOf c (check k) ⌝ }
+{
+    outcomes::handed_back(c, Answer::Check(k), 0)
+}
+
+// Clashes are tested once, on the end state.
+pub fn manage_acl(c: Coordinator, list: &[u8]) -> Outcome
+    requires { ⌜ standing c ≡ true ⌝ }
+    ensures { λ r. ⌜ r ≡ outcomeOf c (judged (manageTests c (now (list .entry))) (good (manageEffects (unitsOf c) (c .enabled) (now (list .entry))) [])) ⌝ }
+{
+    if !whole::all_whole(list) {
+        return refused(c, Condition::WrongLength);
+    }
+    if wrong_key(c.enabled, c.key, list) {
+        return refused(c, Condition::WrongKey);
+    }
+    if form::malformed(c.generation, list) {
+        return refused(c, Condition::BadList);
+    }
+    let units = c.units;
+    if places::some_bad_place(units, list) {
+        return refused(c, Condition::BadLun);
+    }
+    let acl = c.acl;
+    let after = managed_aces(acl, units, list);
+    if !after.fits {
+        return refused(c, Condition::NoRoom);
+    }
+    let next = after.acl;
+    let end = end_with(c, list, next);
+    if clashes::some_clash(end) {
+        return refused(c, Condition::Clash);
+    }
+    outcomes::handed_back(end, Answer::Good, 0)
+}

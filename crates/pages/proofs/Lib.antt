@@ -1,0 +1,3 @@
+pub mod Descriptors
+pub mod Forms
+pub mod Walking
