@@ -10,3 +10,4 @@ pub mod Parts
 pub mod Order
 pub mod Sums
 pub mod Places
+pub mod Sorting
