@@ -10,4 +10,8 @@ pub mod Parts
 pub mod Order
 pub mod Sums
 pub mod Places
+<<<<<<< HEAD
 pub mod Checks
+=======
+pub mod Sorting
+>>>>>>> ea09ca615e48203ad9e186ba54fc382a14644b00

@@ -1,0 +1,16 @@
+-- The one effect is the end of the caller's tokens by that LUN.
+use Rattle.paper.specs.Applied.{applied, appliedAll}
+use borrow.Author.Needs.{needs}
+use Rattle.commands.proofs.tokening.revoke_all.Statement.{statement}
+use Rattle.commands.proofs.tokening.revoke_all.Tie as tie
+
+pub revoke-all-spec : {M : Type 1} → statement M
+unfolding applied appliedAll
+revoke-all-spec =
+    tie.close
+    (tie.spec
+    (λ c. search needs)
+    (λ c. search needs)
+    (λ c κs. search needs)
+    (λ c κs. search needs)
+    (λ c. rw (c .before .ended .ensures) at (c .handed-back .ensures)))

@@ -1,0 +1,5 @@
+pub mod Ordered
+pub mod Listing
+pub mod RowOrder
+pub mod OwnRows
+pub mod Answering
