@@ -1,0 +1,40 @@
+-- What an OUT command asks for, in the enums of the code. An AccessID and a list of pages stand in the parameter bytes, which are beside the enum.
+use Prim.Native.Nat.{ℕ}
+use mathlib.Core.List.{List}
+use mathlib.Core.Bool.{Bool, true, false}
+use Rattle.paper.specs.Orders.{Order, manageAcl, disable, enroll, cancel, revoke, revokeAll, assign, release, noAction, Reading, wrong, order}
+use Rattle.coordinator.specs.declared.reading.OutOrder.{OutOrder}
+use Rattle.coordinator.specs.declared.reading.OutOrder.the-variants.{Manage, Disable, Enroll, Cancel, Revoke, RevokeAll, Assign, Release, NoAction}
+use Rattle.coordinator.specs.declared.reading.OutRead.{OutRead}
+use Rattle.coordinator.specs.declared.reading.OutRead.the-variants.{Wrong, Asked}
+
+abbrev pub orderOf : List ℕ → OutOrder → Order
+orderOf list Manage = manageAcl list
+orderOf list (Disable key) = disable key
+orderOf list Enroll = enroll list
+orderOf list Cancel = cancel
+orderOf list (Revoke n) = revoke n
+orderOf list (RevokeAll l) = revokeAll l
+orderOf list (Assign n l) = assign n l
+orderOf list (Release l) = release l
+orderOf list NoAction = noAction
+
+abbrev pub readOf : List ℕ → OutRead → Reading
+readOf list (Wrong k) = wrong k
+readOf list (Asked o) = order (orderOf list o)
+
+-- while access controls are off, an order is itself or nothing
+abbrev pub whileOff : OutOrder → OutOrder
+whileOff Manage = Manage
+whileOff (Disable key) = NoAction
+whileOff Enroll = NoAction
+whileOff Cancel = NoAction
+whileOff (Revoke n) = NoAction
+whileOff (RevokeAll l) = NoAction
+whileOff (Assign n l) = Assign n l
+whileOff (Release l) = NoAction
+whileOff NoAction = NoAction
+
+abbrev pub forceOf : Bool → OutOrder → OutOrder
+forceOf true o = o
+forceOf false o = whileOff o
