@@ -3,7 +3,8 @@ use Prim.Native.Nat.{ℕ, _+_, _≤_, _<_}
 use mathlib.Core.Path.{_≡_, refl, ap, _∙_}
 use mathlib.Core.List.{List, [], _++_, map}
 use native.Mathlib.Omega.{arith}
-use lib.ListN.{length, take, drop, getD, length-append}
+use lib.ListN.{length, take, drop, getD, length-append, length-map, length-take}
+use Rattle.lists.proofs.Parts.{length-gather}
 use Rattle.lists.specs.Lists.{gather}
 use Rattle.lists.proofs.Walk.{Walk, walk-none, walk-more, walk-cons, walk-nil}
 use Rattle.wire.specs.Write.{writes, Wrote}
@@ -45,3 +46,8 @@ module _ {A : Type 0} {bytes : A → List ℕ} {d : A} {items : List A} {order :
   pub listing-end : n ≤ k → Wrote limit at (bytesAt bytes d items (take n order)) old to buf
   unfolding gather
   listing-end h = left-end (rw (walk-nil (s .walk) h)) (s .left)
+
+-- descriptors of 20 bytes, no more than 32 of them
+pub listing-fits : {A : Type 0} (bytes : A → List ℕ) (d : A) (items : List A) (order : List ℕ) (n at : ℕ) → ((x : A) → length (bytes x) ≡ 20) → n ≤ 32 → at ≤ 65536 → at + length (bytesAt bytes d items (take n order)) ≤ 4294967296
+listing-fits bytes d items order n at h k l =
+    omega (arith, simp (length-map, length-take) at (length-gather bytes 20 (map (λ i. getD items i d) (take n order)) (λ x m. h x)))

@@ -1,3 +1,6 @@
 // The two reports: REPORT ACL and the reach list, written into the lent buffer.
+pub mod granted;
 pub mod ordering;
+pub mod paged;
 pub mod reaching;
+pub mod tokened;
