@@ -3,8 +3,8 @@ use Prim.Native.Nat.{ℕ}
 use mathlib.Core.Path.{_≡_, refl, ap, ap₂, sym, _∙_}
 use mathlib.Core.List.{List, [], _∷_, _++_, append-assoc, append-nil}
 use mathlib.Core.Bool.{Bool, true, false, cond, not, _&&_, _||_}
-use lib.ListN.{length, take}
-use Rattle.lists.specs.Lists.{_∈_, any, keep, pairs, gather}
+use lib.ListN.{take}
+use Rattle.lists.specs.Lists.{any, keep, pairs, gather}
 use Rattle.lists.proofs.Tests.{split, or-false}
 use Rattle.lists.proofs.Tables.{take-pad}
 use Rattle.lists.proofs.Members.{any-same, keep-append, keep-same, keep-keep}

@@ -1,6 +1,6 @@
 -- Pages change a table one after the other: a turn of the walk applies the first page, and what is left of the pages does the rest.
 use Prim.Native.Nat.{ℕ, _≤_, _<_}
-use mathlib.Core.Path.{_≡_, refl, ap}
+use mathlib.Core.Path.{_≡_}
 use mathlib.Core.List.{List}
 use lib.ListN.{length, take, drop}
 use Rattle.lists.specs.Pages.{pageSize, pagesOf}

@@ -1,15 +1,14 @@
 -- Which descriptors of a run stand: read one at a time, marked in a scratch table, and put into an array.
-use Prim.Native.Nat.{ℕ, zero, suc, _+_, _/_, _*_, _≤_, _<_}
-use mathlib.Core.Path.{_≡_, refl, ap, ap₂, sym, _∙_}
+use Prim.Native.Nat.{ℕ, zero, suc, _+_, _/_, _≤_, _<_}
+use mathlib.Core.Path.{_≡_, refl, ap, sym, _∙_}
 use mathlib.Core.List.{List, [], _∷_, _++_, map, append-assoc, append-nil}
 use mathlib.Core.Bool.{Bool, true, false, cond}
 use native.Mathlib.Omega.{arith}
 use native.Mathlib.Numerals.{add-one}
-use native.Mathlib.Decide.{decLe}
-use lib.ListN.{length, getD, take, drop, set, length-append, length-take, length-map, drop-of-length-le, List·getD-map}
+use lib.ListN.{length, getD, drop, length-append, length-map, drop-of-length-le, List·getD-map}
 use lib.Seq.{drop-cons, take-all, take-append-le}
-use lib.Dec.{eqb, ltb}
-use borrow.Author.Tests.{lt-ltb, le-ltb, ltb-true, ltb-false}
+use lib.Dec.{ltb}
+use borrow.Author.Tests.{ltb-true, ltb-false}
 use Rattle.lists.specs.Lists.{any, parts}
 use Rattle.lists.proofs.Tests.{split}
 use Rattle.lists.specs.Tables.{pad}

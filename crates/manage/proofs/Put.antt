@@ -1,16 +1,16 @@
 -- What a page puts, and the ACEs that the pages put one after the other, as long as there is room.
-use Prim.Native.Nat.{ℕ, suc, _+_, _≤_, _<_}
-use mathlib.Core.Path.{_≡_, refl, ap, ap₂, sym, _∙_}
+use Prim.Native.Nat.{ℕ, _+_, _≤_, _<_}
+use mathlib.Core.Path.{_≡_, refl, ap, sym, _∙_}
 use mathlib.Core.List.{List, [], _∷_, _++_, append-assoc, append-nil}
-use mathlib.Core.Bool.{Bool, true, false, cond, not, _&&_, _||_}
+use mathlib.Core.Bool.{Bool, true, false, cond, not, _&&_}
 use mathlib.Core.Bool as Bool
 use native.Mathlib.Omega.{arith}
-use lib.ListN.{length, getD, take, drop, set, length-append, length-take}
+use lib.ListN.{length, getD, take, drop, set, length-append}
 use lib.Seq.{take-all, getD-drop}
-use lib.Dec.{eqb, leb, ltb, eqb·suc-zero}
+use lib.Dec.{leb, ltb, eqb·suc-zero}
 use mir.Syntax.{w8}
 use mir.Val.{Fits}
-use borrow.Author.Tests.{leb-true, leb-false, ltb-false, ne-eqb, lt-ltb, le-ltb}
+use borrow.Author.Tests.{leb-true, leb-false, ltb-false, lt-ltb, le-ltb}
 use Rattle.lists.specs.Lists.{any, all, gather}
 use Rattle.lists.specs.Pages.{pageSize, pagesOf}
 use Rattle.lists.specs.Tables.{pad}

@@ -1,13 +1,13 @@
 -- Phase 5 on the end state: the ACEs after the list fit, or they do not.
 use Prim.Native.Nat.{ℕ, _≤_}
-use mathlib.Core.Path.{_≡_, refl, ap, ap₂, sym, _∙_}
-use mathlib.Core.List.{List, [], _++_}
-use mathlib.Core.Bool.{Bool, true, false, cond, not, _||_}
+use mathlib.Core.Path.{_≡_, ap, sym, _∙_}
+use mathlib.Core.List.{List, _++_}
+use mathlib.Core.Bool.{Bool, true, false, not, _||_}
 use native.Mathlib.Omega.{arith}
 use lib.ListN.{length, take, length-take}
-use lib.Dec.{leb, ltb}
+use lib.Dec.{ltb}
 use borrow.Author.Tests.{leb-true, le-ltb}
-use Rattle.lists.specs.Lists.{any, all, keep, gather}
+use Rattle.lists.specs.Lists.{any, keep, gather}
 use Rattle.lists.proofs.Tests.{split, clashes}
 use Rattle.lists.proofs.Tables.{take-pad}
 use Rattle.lists.proofs.Members.{all-in, none-any, none-kept, length-keep}

@@ -1,3 +1,4 @@
 pub mod EndState
 pub mod Luacds
 pub mod Aces
+pub mod Phases

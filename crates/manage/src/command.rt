@@ -12,6 +12,7 @@ ghost use Rattle.paper.specs.Commands.{manageTests};
 ghost use Rattle.paper.specs.Outcomes.{check, good, judged, outcomeOf};
 ghost use Rattle.manage.specs.EndState.{endWith};
 ghost use Rattle.manage.specs.Aces.{Sized, fittedAfter};
+ghost use Rattle.manage.specs.Phases.{Passed, answerTo};
 use crate::aces;
 use crate::aces::Aces;
 use crate::enrolments;
@@ -78,25 +79,13 @@ fn refused(c: Coordinator, k: Condition) -> Outcome
     outcomes::handed_back(c, Answer::Check(k), 0)
 }
 
-// Clashes are tested once, on the end state.
-pub fn manage_acl(c: Coordinator, list: &[u8]) -> Outcome
-    requires { ⌜ standing c ≡ true ⌝ }
-    ensures { λ r. ⌜ r ≡ outcomeOf c (judged (manageTests c (now (list .entry))) (good (manageEffects (unitsOf c) (c .enabled) (now (list .entry))) [])) ⌝ }
+// Phases 5 and 6, which are asked of the end state alone. It is put into effect if it passes both.
+fn put_into_effect(c: Coordinator, list: &[u8]) -> Outcome
+    requires { ⌜ Passed c (now list) ⌝ }
+    ensures { λ r. ⌜ r ≡ answerTo c (now (list .entry)) ⌝ }
 {
-    if !whole::all_whole(list) {
-        return refused(c, Condition::WrongLength);
-    }
-    if wrong_key(c.enabled, c.key, list) {
-        return refused(c, Condition::WrongKey);
-    }
-    if form::malformed(c.generation, list) {
-        return refused(c, Condition::BadList);
-    }
-    let units = c.units;
-    if places::some_bad_place(units, list) {
-        return refused(c, Condition::BadLun);
-    }
     let acl = c.acl;
+    let units = c.units;
     let after = managed_aces(acl, units, list);
     if !after.fits {
         return refused(c, Condition::NoRoom);
@@ -107,4 +96,25 @@ pub fn manage_acl(c: Coordinator, list: &[u8]) -> Outcome
         return refused(c, Condition::Clash);
     }
     outcomes::handed_back(end, Answer::Good, 0)
+}
+
+// MANAGE ACL: the first phase that fails answers.
+pub fn manage_acl(c: Coordinator, list: &[u8]) -> Outcome
+    requires { ⌜ standing c ≡ true ⌝ }
+    ensures { λ r. ⌜ r ≡ outcomeOf c (judged (manageTests c (now (list .entry))) (good (manageEffects (unitsOf c) (c .enabled) (now (list .entry))) [])) ⌝ }
+{
+    let units = c.units;
+    if !whole::all_whole(list) {
+        return refused(c, Condition::WrongLength);
+    }
+    if wrong_key(c.enabled, c.key, list) {
+        return refused(c, Condition::WrongKey);
+    }
+    if form::malformed(c.generation, list) {
+        return refused(c, Condition::BadList);
+    }
+    if places::some_bad_place(units, list) {
+        return refused(c, Condition::BadLun);
+    }
+    put_into_effect(c, list)
 }

@@ -16,7 +16,8 @@ pub struct Filled {
     pub count: usize,
 }
 
-// Whether a later descriptor of the run has its LUN or its default LUN.
+// Whether a later descriptor of the run has its LUN or its default LUN. A list that has passed phase 4 names at most 32 default LUNs,
+// and each walk ends at the next descriptor with the same one: all walks of a page together take at most 32 steps a descriptor.
 fn overruled(run: &[u8], k: usize) -> bool
     requires { ⌜ 20 * k + 20 ≤ length (now run) ⌝ }
     ensures { λ r. ⌜ r ≡ overruledAt (descriptorsIn (now (run .entry))) k ⌝ }

@@ -1,5 +1,5 @@
 -- The ACEs of the pages that are left are added behind those so far, as long as there is room.
-use mathlib.Core.Path.{_≡_, refl, sym, _∙_, ap}
+use mathlib.Core.Path.{refl, sym, _∙_}
 use mathlib.Core.List.{_++_}
 use mathlib.Core.Logic.{⊎-elim}
 use native.Mathlib.Omega.{arith}

@@ -1,6 +1,6 @@
 -- Every setter's table is that of the end state.
 use borrow.Author.Needs.{needs}
-use mathlib.Core.Path.{_≡_, ap, _∙_}
+use mathlib.Core.Path.{_∙_}
 use Rattle.paper.specs.Pages.{acePages}
 use Rattle.manage.specs.EndState.{liveAfter, endWith}
 use Rattle.manage.proofs.command.end_with.Statement.{statement}

@@ -1,7 +1,7 @@
 -- Each early return is one test of the definition, in its order.
 use borrow.Author.Needs.{needs}
 use borrow.Author.Tests.{eq-eqb, ne-eqb, not-true, not-false}
-use mathlib.Core.Path.{_≡_, sym, _∙_}
+use mathlib.Core.Path.{sym, _∙_}
 use mathlib.Core.Bool.{or-true, or-false}
 use Rattle.manage.specs.EndState.{endsUnder}
 use Rattle.manage.proofs.enrolments.ends_under.Statement.{statement}

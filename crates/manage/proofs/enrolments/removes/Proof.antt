@@ -1,7 +1,6 @@
 -- The code is tested first, and then whether a descriptor is there.
 use borrow.Author.Needs.{needs}
 use borrow.Author.Tests.{eq-eqb, ne-eqb}
-use mathlib.Core.Path.{sym, _∙_}
 use Rattle.manage.specs.EndState.{removes}
 use Rattle.manage.proofs.enrolments.removes.Statement.{statement}
 use Rattle.manage.proofs.enrolments.removes.Tie as tie

@@ -1,5 +1,4 @@
 -- The array is stored into below the 16th, and kept behind it.
-use native.Mathlib.Omega.{arith}
 use borrow.Author.Needs.{needs}
 use borrow.Author.Tests.{lt-ltb, le-ltb}
 use Rattle.manage.specs.Luacds.{joinedTo}
