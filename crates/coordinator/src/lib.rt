@@ -1,3 +1,4 @@
-// The coordinator: setup, commands, link events, the route question and the reach list.
+// The coordinator. The public functions take any input and test the house refusals first; what they call asks for a coordinator that stands.
 pub mod obeying;
+pub mod questions;
 pub mod reading;
