@@ -1,2 +1,3 @@
 // The public functions: they take any input, and test the house refusals first.
 pub mod questions;
+pub mod setup;
