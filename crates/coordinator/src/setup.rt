@@ -20,6 +20,7 @@ use paper::setters;
 use paper::state;
 use paper::state::Coordinator;
 use paper::state::ENROLMENTS_SIZE;
+use paper::state::ID_SIZE;
 use paper::state::IDS_SIZE;
 use paper::state::Initiators;
 use paper::state::Units;
@@ -45,13 +46,13 @@ fn luns_formed(luns: &[u8]) -> bool
 fn fills_tables(ids: &[u8], luns: &[u8]) -> bool
     ensures { λ r. ⌜ r ≡ fills (now (ids .entry)) (now (luns .entry)) ⌝ }
 {
-    if ids.len() % 24 != 0 {
+    if ids.len() % ID_SIZE != 0 {
         return false;
     }
     if luns.len() % 8 != 0 {
         return false;
     }
-    if 384 < ids.len() {
+    if IDS_SIZE < ids.len() {
         return false;
     }
     if 256 < luns.len() {
@@ -73,7 +74,7 @@ fn initiators_of(ids: &[u8]) -> Initiators
         k += 1;
     }
     Initiators {
-        count: size / 24,
+        count: size / ID_SIZE,
         ids: bytes,
         enrolments: [0; ENROLMENTS_SIZE],
     }
