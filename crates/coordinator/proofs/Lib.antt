@@ -1,2 +1,3 @@
 pub mod Asking
+pub mod Setting
 pub mod Supported

@@ -2,3 +2,4 @@
 pub mod obeying;
 pub mod questions;
 pub mod reading;
+pub mod setup;
