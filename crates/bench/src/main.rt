@@ -1,10 +1,16 @@
-// One standing rule on a state with every table full, for its cost to be counted. The input names the state, L (lists of 16 LUACDs) or E (everything), and the rule by a letter; without input both states are tested.
+// One standing rule or one call on a state that the input names, for its cost to be counted; without input two full states are tested.
+// The input: a letter for the state, a letter for the rule or the call, the initiator, and as eight bytes each the random number and the LUN; then the CDB, and then the parameter bytes.
+ghost use mathlib.Core.Path.{_≡_};
+ghost use lib.ListN.{length};
+
+mod calls;
+mod said;
 mod states;
 
+use calls::Operands;
 use libc::STDIN_FILENO;
 use libc::STDOUT_FILENO;
 use paper::state::Coordinator;
-use paper::state::Extent;
 use standing::rules;
 
 // The answer of the rule that a letter names; another letter names none.
@@ -30,27 +36,51 @@ fn asked(c: Coordinator, rule: u8) -> bool {
     }
 }
 
-fn say(c: Coordinator, rule: u8) {
-    if asked(c, rule) {
-        io::write_all(STDOUT_FILENO, b"kept\n");
-    } else {
-        io::write_all(STDOUT_FILENO, b"broken\n");
+// Room for the longest list of one page: a header and a page of 3,275 descriptors.
+fn list_buffer() -> [u8; 65560]
+    ensures { λ r. ⌜ 65560 ≡ length r ⌝ }
+{
+    [0; 65560]
+}
+
+// Capitals name calls, other letters rules.
+fn answered(c: Coordinator, head: &[u8; 19], cdb: &[u8], list: &[u8]) {
+    let letter = head[1];
+    let mut reply = io::large_buffer();
+    if letter < b'A' || b'Z' < letter {
+        said::say_kept(asked(c, letter));
+        return;
     }
+    let x = Operands {
+        initiator: wire::byte(head, 2) as usize,
+        random: wire::be64(head, 3),
+        lun: wire::be64(head, 11),
+    };
+    said::say_answer(calls::called(c, letter, x, cdb, list, &mut reply));
+}
+
+// Reads the operands, also for a rule, so that reading them is no part of the difference.
+fn measured(head: &[u8; 19]) {
+    let mut cdb = [0; 16];
+    let mut list = list_buffer();
+    io::read_full(STDIN_FILENO, &mut cdb);
+    let n = io::read_full(STDIN_FILENO, &mut list);
+    answered(states::named(head[0]), head, &cdb, &list[..n]);
 }
 
 fn both() {
     io::write_all(STDOUT_FILENO, b"L: ");
-    say(states::full(Extent::Listed), b'm');
+    said::say_kept(rules::standing(states::named(b'L')));
     io::write_all(STDOUT_FILENO, b"E: ");
-    say(states::full(Extent::Everything), b'm');
+    said::say_kept(rules::standing(states::named(b'E')));
 }
 
 fn main() {
-    let mut bytes = [0; 2];
-    io::read_full(STDIN_FILENO, &mut bytes);
-    match bytes[0] {
-        b'L' => say(states::full(Extent::Listed), bytes[1]),
-        b'E' => say(states::full(Extent::Everything), bytes[1]),
-        _ => both(),
+    let mut head = [0; 19];
+    let n = io::read_full(STDIN_FILENO, &mut head);
+    if n == 0 {
+        both();
+    } else {
+        measured(&head);
     }
 }

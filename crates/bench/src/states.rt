@@ -1,4 +1,4 @@
-// A state with every table full: 16 initiators, each enrolled, and 32 units, ACEs, tokens and proxy LUNs. Identifiers differ in the last byte that is compared, and in no other.
+// The states that are measured. In a full one every table is full: 16 initiators, each enrolled, and 32 units, ACEs, tokens and proxy LUNs. Identifiers differ in the last byte that is compared, and in no other.
 ghost use Prim.Native.Nat.{_<_};
 use paper::setters;
 use paper::state;
@@ -15,7 +15,72 @@ use paper::state::Token;
 use paper::state::Tokens;
 use paper::state::Units;
 
-// A list of 16: the units from a number on, each at the LUN of its number.
+// How much of each table is used. Of the initiators the first ones are enrolled, each under an AccessID of its own.
+pub struct Shape {
+    pub extent: Extent,
+    pub initiators: usize,
+    pub enrolled: usize,
+    pub units: usize,
+    pub aces: usize,
+    pub listed: usize,
+    pub tokens: usize,
+    pub proxies: usize,
+}
+
+// Every table full; each ACE lists 16 LUACDs, or holds everything.
+fn full(extent: Extent) -> Shape {
+    Shape {
+        extent,
+        initiators: 16,
+        enrolled: 16,
+        units: 32,
+        aces: 32,
+        listed: 16,
+        tokens: 32,
+        proxies: 32,
+    }
+}
+
+// Full but for one token and one proxy LUN, so that a command that adds one is GOOD.
+fn nearly_full(extent: Extent) -> Shape {
+    Shape {
+        extent,
+        initiators: 16,
+        enrolled: 16,
+        units: 32,
+        aces: 32,
+        listed: 16,
+        tokens: 31,
+        proxies: 31,
+    }
+}
+
+// 12 ACEs of 4 LUACDs: those of 8 TransportIDs, and those of 4 AccessIDs, under which the first initiators are enrolled.
+fn typical() -> Shape {
+    Shape {
+        extent: Extent::Listed,
+        initiators: 8,
+        enrolled: 4,
+        units: 16,
+        aces: 12,
+        listed: 4,
+        tokens: 4,
+        proxies: 4,
+    }
+}
+
+// The shape that a letter names. L: lists of 16 LUACDs, E: everything, in capitals full; T, or another letter, typical.
+fn shape_named(letter: u8) -> Shape {
+    match letter {
+        b'L' => full(Extent::Listed),
+        b'E' => full(Extent::Everything),
+        b'l' => nearly_full(Extent::Listed),
+        b'e' => nearly_full(Extent::Everything),
+        _ => typical(),
+    }
+}
+
+// 16 LUACDs: the units from a number on, each at the LUN of its number. An ACE uses the first of them.
 fn luacds(from: u8) -> [Luacd; 16]
     requires { ⌜ from < 32 ⌝ }
 {
@@ -33,61 +98,69 @@ fn luacds(from: u8) -> [Luacd; 16]
 }
 
 // The ACE of initiator n's TransportID, with the lower units.
-fn transport_ace(extent: Extent, n: u8) -> Ace {
+fn transport_ace(extent: Extent, listed: usize, n: u8) -> Ace {
     let mut id = [0; 24];
     id[23] = n;
     Ace {
         kind: IdType::TransportId,
         extent,
         id,
-        count: 16,
+        count: listed,
         luacds: luacds(0),
     }
 }
 
-// The ACE of the AccessID under which initiator n is enrolled, with the upper units.
-fn access_ace(extent: Extent, n: u8) -> Ace {
+// Units that no TransportID's ACE lists.
+fn upper_luacds(listed: usize) -> [Luacd; 16] {
+    if listed < 16 {
+        return luacds(8);
+    }
+    luacds(16)
+}
+
+// The ACE of the AccessID under which initiator n is enrolled.
+fn access_ace(extent: Extent, listed: usize, n: u8) -> Ace {
     let mut id = [0; 24];
     id[15] = n;
     Ace {
         kind: IdType::AccessId,
         extent,
         id,
-        count: 16,
-        luacds: luacds(16),
+        count: listed,
+        luacds: upper_luacds(listed),
     }
 }
 
-// The ACEs with those of initiator i.
-fn aces_with(t: Acl, extent: Extent, i: usize) -> Acl
-    requires { ⌜ i < 16 ⌝ }
+// The ACE at a place: those of the TransportIDs come first.
+fn ace_at(s: Shape, i: usize) -> Ace
+    requires { ⌜ i < 32 ⌝ }
+{
+    let extent = s.extent;
+    if i < s.initiators {
+        return transport_ace(extent, s.listed, i as u8);
+    }
+    access_ace(extent, s.listed, (i - s.initiators) as u8)
+}
+
+fn aces_with(t: Acl, s: Shape, i: usize) -> Acl
+    requires { ⌜ i < 32 ⌝ }
 {
     let mut next = t;
-    let second = i + 16;
-    let n = i as u8;
-    next.items[i] = transport_ace(extent, n);
-    next.items[second] = access_ace(extent, n);
-    next.count = 32;
+    next.items[i] = ace_at(s, i);
+    next.count = s.aces;
     next
 }
 
-// The initiators with initiator i, its TransportID and its enrolment.
-fn initiators_with(t: Initiators, i: usize) -> Initiators
-    requires { ⌜ i < 16 ⌝ }
+fn units_with(t: Units, s: Shape, i: usize) -> Units
+    requires { ⌜ i < 32 ⌝ }
 {
     let mut next = t;
-    let n = i as u8;
-    let stage = state::ENROLMENT_SIZE * i;
-    let last = stage + 16;
-    let end = state::ID_SIZE * i + 23;
-    next.ids[end] = n;
-    next.enrolments[stage] = 1;
-    next.enrolments[last] = n;
-    next.count = 16;
+    next.luns[i] = i as u16;
+    next.count = s.units;
     next
 }
 
-fn tokens_with(t: Tokens, i: usize) -> Tokens
+fn tokens_with(t: Tokens, s: Shape, i: usize) -> Tokens
     requires { ⌜ i < 32 ⌝ }
 {
     let mut next = t;
@@ -98,11 +171,11 @@ fn tokens_with(t: Tokens, i: usize) -> Tokens
         requester: n / 2,
         lun: n as u16,
     };
-    next.count = 32;
+    next.count = s.tokens;
     next
 }
 
-fn proxies_with(t: ProxyLuns, i: usize) -> ProxyLuns
+fn proxies_with(t: ProxyLuns, s: Shape, i: usize) -> ProxyLuns
     requires { ⌜ i < 32 ⌝ }
 {
     let mut next = t;
@@ -112,50 +185,60 @@ fn proxies_with(t: ProxyLuns, i: usize) -> ProxyLuns
         lun: (n as u16) + 64,
         token: (n as u64) + 1,
     };
-    next.count = 32;
+    next.count = s.proxies;
     next
 }
 
-fn units_with(t: Units, i: usize) -> Units
-    requires { ⌜ i < 32 ⌝ }
+// The initiators with initiator i's TransportID, and its enrolment if it has one.
+fn initiators_with(t: Initiators, s: Shape, i: usize) -> Initiators
+    requires { ⌜ i < 16 ⌝ }
 {
     let mut next = t;
-    next.luns[i] = i as u16;
-    next.count = 32;
+    let n = i as u8;
+    let end = state::ID_SIZE * i + 23;
+    next.ids[end] = n;
+    next.count = s.initiators;
+    if s.enrolled <= i {
+        return next;
+    }
+    let stage = state::ENROLMENT_SIZE * i;
+    let last = stage + 16;
+    next.enrolments[stage] = 1;
+    next.enrolments[last] = n;
     next
 }
 
 // The state with the entries at place i.
-fn filled(c: Coordinator, extent: Extent, i: usize) -> Coordinator
+fn filled(c: Coordinator, s: Shape, i: usize) -> Coordinator
     requires { ⌜ i < 32 ⌝ }
 {
+    let mut next = c;
     let units = c.units;
+    next.units = units_with(units, s, i);
     let tokens = c.tokens;
+    next.tokens = tokens_with(tokens, s, i);
     let proxies = c.proxies;
-    let more = setters::with_tokens(
-        setters::with_proxies(
-            setters::with_units(c, units_with(units, i)),
-            proxies_with(proxies, i),
-        ),
-        tokens_with(tokens, i),
-    );
+    next.proxies = proxies_with(proxies, s, i);
+    let acl = c.acl;
+    next.acl = aces_with(acl, s, i);
     if 16 <= i {
-        return more;
+        return next;
     }
     let initiators = c.initiators;
-    let acl = c.acl;
-    setters::with_acl(
-        setters::with_initiators(more, initiators_with(initiators, i)),
-        aces_with(acl, extent, i),
-    )
+    next.initiators = initiators_with(initiators, s, i);
+    next
 }
 
-pub fn full(extent: Extent) -> Coordinator {
+fn state_of(s: Shape) -> Coordinator {
     let mut c = setters::with_switch(state::fresh_coordinator(), true, 1, 7);
     let mut i = 0;
     while i < 32 {
-        c = filled(c, extent, i);
+        c = filled(c, s, i);
         i += 1;
     }
     c
+}
+
+pub fn named(letter: u8) -> Coordinator {
+    state_of(shape_named(letter))
 }

@@ -11,7 +11,6 @@ ghost use Rattle.paper.specs.Commands.{elsewhere, enrollTests, passes};
 ghost use Rattle.paper.specs.declared.state.IdType.the-variants.{AccessId};
 ghost use Rattle.rows.specs.Initiator.{InSetup};
 ghost use Rattle.commands.specs.Answered.{answered};
-use crate::keys;
 use paper::answers::Answer;
 use paper::answers::Condition;
 use paper::outcomes;
@@ -66,15 +65,15 @@ pub fn enroll(c: Coordinator, i: usize, id: &[u8]) -> Outcome
     ensures { λ r. ⌜ r ≡ answered c (enrollTests c i (now (id .entry))) (enrolling (joined i (kept AccessId (now (id .entry)))) ∷ []) ⌝ }
 {
     if is_elsewhere(c, i, id) {
-        return keys::checked(c, Condition::EnrolledElsewhere);
+        return outcomes::checked(c, Condition::EnrolledElsewhere);
     }
     let acl = c.acl;
     if !aces::has_ace(acl, IdType::AccessId, id) {
-        return keys::checked(c, Condition::NoAce);
+        return outcomes::checked(c, Condition::NoAce);
     }
     let next = with_joined(c, i, id);
     if clashes::clash_for(next, i) {
-        return keys::checked(c, Condition::Clash);
+        return outcomes::checked(c, Condition::Clash);
     }
     outcomes::handed_back(next, Answer::Good, 0)
 }

@@ -9,7 +9,6 @@ ghost use Rattle.paper.specs.Effects.{assigned, released, proxying};
 ghost use Rattle.paper.specs.Commands.{assignTests, releaseTests};
 ghost use Rattle.rows.specs.Initiator.{InSetup};
 ghost use Rattle.commands.specs.Answered.{answered};
-use crate::keys;
 use crate::tokening;
 use paper::answers::Answer;
 use paper::answers::Condition;
@@ -39,13 +38,13 @@ pub fn assign(c: Coordinator, i: usize, n: u64, l: u64) -> Outcome
 {
     let ts = c.tokens;
     if !tokening::is_live(ts, n) {
-        return keys::checked(c, Condition::DeadToken);
+        return outcomes::checked(c, Condition::DeadToken);
     }
     if is_taken(c, i, l) {
-        return keys::checked(c, Condition::BadLun);
+        return outcomes::checked(c, Condition::BadLun);
     }
     if 32 <= c.proxies.count {
-        return keys::checked(c, Condition::NoRoom);
+        return outcomes::checked(c, Condition::NoRoom);
     }
     let next = effects::assigned(c, i as u8, l, n);
     outcomes::handed_back(next, Answer::Good, 0)
@@ -58,7 +57,7 @@ pub fn release(c: Coordinator, i: usize, l: u64) -> Outcome
 {
     let ps = c.proxies;
     if !proxies::has_proxy(ps, i as u8, l) {
-        return keys::checked(c, Condition::BadLun);
+        return outcomes::checked(c, Condition::BadLun);
     }
     let next = effects::released(c, i as u8, l);
     outcomes::handed_back(next, Answer::Good, 0)

@@ -15,7 +15,6 @@ ghost use Rattle.paper.specs.Outcomes.{outcomeOf, bufferAfter};
 ghost use Rattle.rows.specs.Initiator.{InSetup};
 ghost use Rattle.commands.specs.Answered.{answered};
 ghost use Rattle.commands.specs.Requested.{requested, requestDecision, outcomeWith, replyWith};
-use crate::keys;
 use paper::answers::Answer;
 use paper::answers::Condition;
 use paper::answers::Refusal;
@@ -120,7 +119,7 @@ pub fn request_token(c: Coordinator, i: usize, l: u64, random: u64, reply: &mut 
 {
     let unit = request_unit(c, i, l, random);
     match unit {
-        Requested::Denied(k) => keys::checked(c, k),
+        Requested::Denied(k) => outcomes::checked(c, k),
         Requested::Unit(u) => {
             let t = Token {
                 number: random,

@@ -1,8 +1,11 @@
 -- What an OUT command asks for, in the enums of the code. An AccessID and a list of pages stand in the parameter bytes, which are beside the enum.
 use Prim.Native.Nat.{ℕ}
 use mathlib.Core.List.{List}
-use mathlib.Core.Bool.{Bool, true, false}
-use Rattle.paper.specs.Orders.{Order, manageAcl, disable, enroll, cancel, revoke, revokeAll, assign, release, noAction, Reading, wrong, order}
+use mathlib.Core.Bool.{Bool, true, false, cond}
+use lib.Dec.{ltb}
+use Rattle.lists.specs.Bytes.{be}
+use Rattle.paper.specs.Orders.{Order, requestToken, manageAcl, disable, enroll, cancel, revoke, revokeAll, assign, release, noAction, Reading, wrong, order, lengthField}
+use Rattle.paper.specs.declared.answers.Condition.the-variants.{InvalidField}
 use Rattle.coordinator.specs.declared.reading.OutOrder.{OutOrder}
 use Rattle.coordinator.specs.declared.reading.OutOrder.the-variants.{Manage, Disable, Enroll, Cancel, Revoke, RevokeAll, Assign, Release, NoAction}
 use Rattle.coordinator.specs.declared.reading.OutRead.{OutRead}
@@ -38,3 +41,7 @@ whileOff NoAction = NoAction
 abbrev pub forceOf : Bool → OutOrder → OutOrder
 forceOf true o = o
 forceOf false o = whileOff o
+
+-- REQUEST PROXY TOKEN among the IN commands: "allocation length under 8 (H)"
+abbrev pub readRequest : List ℕ → Reading
+readRequest cdb = cond (ltb (lengthField cdb) 8) (wrong InvalidField) (order (requestToken (be 8 cdb 2)))

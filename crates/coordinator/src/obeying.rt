@@ -10,10 +10,11 @@ use crate::reading;
 use crate::reading::OutOrder;
 use crate::reading::OutRead;
 use commands::enrolling;
-use commands::keys;
 use commands::proxying;
+use commands::switching;
 use commands::tokening;
 use manage::command;
+use paper::outcomes;
 use paper::outcomes::Outcome;
 use paper::state::Coordinator;
 
@@ -24,14 +25,14 @@ fn obeyed(c: Coordinator, i: usize, o: OutOrder, list: &[u8]) -> Outcome
 {
     match o {
         OutOrder::Manage => command::manage_acl(c, list),
-        OutOrder::Disable(key) => keys::disable(c, key),
+        OutOrder::Disable(key) => switching::disable(c, key),
         OutOrder::Enroll => enrolling::enroll(c, i, list),
         OutOrder::Cancel => enrolling::cancel(c, i),
         OutOrder::Revoke(n) => tokening::revoke(c, i, n),
         OutOrder::RevokeAll(l) => tokening::revoke_all(c, i, l),
         OutOrder::Assign(n, l) => proxying::assign(c, i, n, l),
         OutOrder::Release(l) => proxying::release(c, i, l),
-        OutOrder::NoAction => keys::no_action(c),
+        OutOrder::NoAction => switching::no_action(c),
     }
 }
 
@@ -42,7 +43,7 @@ pub fn command_out(c: Coordinator, i: usize, action: u8, list: &[u8]) -> Outcome
 {
     let read = reading::read_out(action, list);
     match read {
-        OutRead::Wrong(k) => keys::checked(c, k),
+        OutRead::Wrong(k) => outcomes::checked(c, k),
         OutRead::Asked(o) => obeyed(c, i, reading::in_force(c.enabled, o), list),
     }
 }

@@ -5,7 +5,7 @@ ghost use lib.ListN.{length};
 ghost use Rattle.paper.specs.Standing.{standing};
 ghost use Rattle.paper.specs.Outcomes.{decideLink, decideReach, outcomeOf, bufferAfter, routed, openingOf};
 use commands::enrolling;
-use commands::keys;
+use commands::switching;
 use paper::answers::Answer;
 use paper::answers::Opened;
 use paper::answers::Refusal;
@@ -51,7 +51,7 @@ pub fn link_event_standing(c: Coordinator, initiator: usize) -> Outcome
     if c.enabled {
         return enrolling::link_event(c, initiator);
     }
-    keys::no_action(c)
+    switching::no_action(c)
 }
 
 // A link event of an initiator.
@@ -64,7 +64,16 @@ pub fn link_event(c: Coordinator, initiator: usize) -> Outcome
     link_event_standing(c, initiator)
 }
 
-// The reach list, in the lent buffer if that has room for all of it.
+// The reach list, where the state stands, in the lent buffer if that has room for all of it.
+pub fn reach_standing(c: Coordinator, reply: &mut [u8]) -> Outcome
+    requires { ⌜ standing c ≡ true ⌝ }
+    ensures outcome { λ r. ⌜ r ≡ outcomeOf c (decideReach c (length (now (reply .entry)))) ⌝ }
+    ensures bytes { λ r. ⌜ now (reply .exit) ≡ bufferAfter (decideReach c (length (now (reply .entry)))) (now (reply .entry)) ⌝ }
+{
+    reaching::reach(c, reply)
+}
+
+// The reach list.
 pub fn reach(c: Coordinator, reply: &mut [u8]) -> Outcome
     ensures outcome { λ r. ⌜ r ≡ outcomeOf c (decideReach c (length (now (reply .entry)))) ⌝ }
     ensures bytes { λ r. ⌜ now (reply .exit) ≡ bufferAfter (decideReach c (length (now (reply .entry)))) (now (reply .entry)) ⌝ }
@@ -72,5 +81,5 @@ pub fn reach(c: Coordinator, reply: &mut [u8]) -> Outcome
     if !rules::standing(c) {
         return outcomes::handed_back(c, Answer::Refused(Refusal::BadState), 0);
     }
-    reaching::reach(c, reply)
+    reach_standing(c, reply)
 }

@@ -1,6 +1,6 @@
 -- Tests taken apart: a split that keeps the test's value, what `||` and `&&` tell of their parts, and what cannot be.
 use mathlib.Core.Path.{_≡_, refl, sym, _∙_}
-use mathlib.Core.Bool.{Bool, true, false, _&&_, _||_, true≢false}
+use mathlib.Core.Bool.{Bool, true, false, cond, _&&_, _||_, true≢false}
 use mathlib.Core.Option.{Option, some, none}
 use mathlib.Core.Logic.{_⊎_, inl, inr}
 use Prim.Native.Nat.{ℕ}
@@ -11,6 +11,11 @@ use borrow.Author.Tests.{eqb-true, eq-eqb}
 pub split : (b : Bool) {P : Type 0} → (b ≡ true → P) → (b ≡ false → P) → P
 split true f g = f refl
 split false f g = g refl
+
+-- what holds of both results of a test
+pub both : {A : Type 0} (P : A → Type 0) (b : Bool) {x y : A} → P x → P y → P (cond b x y)
+both P true p q = p
+both P false p q = q
 
 pub clashes : {P : Type 0} {b : Bool} → b ≡ true → b ≡ false → P
 clashes p q = absurd (true≢false (sym p ∙ q))

@@ -31,16 +31,7 @@ use paper::state::Acl;
 use paper::state::Coordinator;
 use paper::state::Units;
 use rows::clashes;
-
-// "enabled, and the key differs. Disabled: key ignored."
-fn wrong_key(enabled: bool, key: u64, list: &[u8]) -> bool
-    ensures { λ r. ⌜ r ≡ enabled && not (eqb (keyIn (now (list .entry))) key) ⌝ }
-{
-    if !enabled {
-        return false;
-    }
-    header::key_in(list) != key
-}
+use tables::keys;
 
 // The ACL after the list, if it has room for it.
 fn managed_aces(acl: Acl, units: Units, list: &[u8]) -> Aces
@@ -73,12 +64,6 @@ fn end_with(c: Coordinator, list: &[u8], acl: Acl) -> Coordinator
     setters::with_proxies(setters::with_tokens(granted, tokens), proxies)
 }
 
-fn refused(c: Coordinator, k: Condition) -> Outcome
-    ensures { λ r. ⌜ r ≡ outcomeOf c (check k) ⌝ }
-{
-    outcomes::handed_back(c, Answer::Check(k), 0)
-}
-
 // Phases 5 and 6, which are asked of the end state alone. It is put into effect if it passes both.
 fn put_into_effect(c: Coordinator, list: &[u8]) -> Outcome
     requires { ⌜ Passed c (now list) ⌝ }
@@ -88,12 +73,12 @@ fn put_into_effect(c: Coordinator, list: &[u8]) -> Outcome
     let units = c.units;
     let after = managed_aces(acl, units, list);
     if !after.fits {
-        return refused(c, Condition::NoRoom);
+        return outcomes::checked(c, Condition::NoRoom);
     }
     let next = after.acl;
     let end = end_with(c, list, next);
     if clashes::some_clash(end) {
-        return refused(c, Condition::Clash);
+        return outcomes::checked(c, Condition::Clash);
     }
     outcomes::handed_back(end, Answer::Good, 0)
 }
@@ -105,16 +90,17 @@ pub fn manage_acl(c: Coordinator, list: &[u8]) -> Outcome
 {
     let units = c.units;
     if !whole::all_whole(list) {
-        return refused(c, Condition::WrongLength);
+        return outcomes::checked(c, Condition::WrongLength);
     }
-    if wrong_key(c.enabled, c.key, list) {
-        return refused(c, Condition::WrongKey);
+    // "enabled, and the key differs. Disabled: key ignored."
+    if keys::wrong_key(c.enabled, c.key, header::key_in(list)) {
+        return outcomes::checked(c, Condition::WrongKey);
     }
     if form::malformed(c.generation, list) {
-        return refused(c, Condition::BadList);
+        return outcomes::checked(c, Condition::BadList);
     }
     if places::some_bad_place(units, list) {
-        return refused(c, Condition::BadLun);
+        return outcomes::checked(c, Condition::BadLun);
     }
     put_into_effect(c, list)
 }

@@ -83,7 +83,7 @@ length-report c =
     simp (length-append, bytes-length, gather-sort (aceBytes (unitsOf c)) aceBefore (acesOf c), length-proxy) (omega arith)
 
 -- ---- the largest report
-listed-few : (x : Extent) (n : ℕ) (ls : List Luacd) → n ≤ 16 → length (listedIn (contentBy x (take n ls))) ≤ 16
+pub listed-few : (x : Extent) (n : ℕ) (ls : List Luacd) → n ≤ 16 → length (listedIn (contentBy x (take n ls))) ≤ 16
 listed-few Listed n ls h = simp length-take (omega arith)
 listed-few Everything n ls h = omega arith
 

@@ -7,7 +7,7 @@ use lib.ListN.{length}
 use lib.Dec.{eqb, leb, ltb}
 use Rattle.lists.specs.Lists.{any, all, isSome}
 use Rattle.lists.specs.Pages.{wholePage}
-use Rattle.lists.proofs.Tests.{clashes}
+use Rattle.lists.proofs.Tests.{both, clashes}
 use Rattle.wire.specs.Lun.{lunForm}
 use Rattle.paper.specs.Sizes.{maxTokens, maxProxies}
 use Rattle.paper.specs.Identifiers.{kept}
@@ -63,11 +63,6 @@ data Other : Decision → Type 0 where
   refusal : {n : Refusal} → Other (refuse n)
   checked : {k : Condition} → other k ≡ true → Other (check k)
   fine : {es : List Effect} {bytes : List ℕ} → Other (good es bytes)
-
--- what holds in both cases of a test
-both : {A : Type 0} (P : A → Type 0) (b : Bool) {x y : A} → P x → P y → P (cond b x y)
-both P true p q = p
-both P false p q = q
 
 -- ---- reading a command
 read-exactly : (n : ℕ) (list : List ℕ) (o : Order) → Read (exactly n list o)

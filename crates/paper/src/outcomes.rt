@@ -1,8 +1,9 @@
 // What the public functions hand back.
 ghost use mathlib.Core.Path.{_≡_};
-ghost use Rattle.paper.specs.Outcomes.{handedBack, openingOf};
+ghost use Rattle.paper.specs.Outcomes.{check, handedBack, outcomeOf, openingOf};
 use crate::answers;
 use crate::answers::Answer;
+use crate::answers::Condition;
 use crate::answers::Opened;
 use crate::answers::Values;
 use crate::state::Coordinator;
@@ -38,6 +39,13 @@ pub fn handed_back(c: Coordinator, answer: Answer, delivered: usize) -> Outcome
         values: answers::values_of(answer),
         delivered: delivered,
     }
+}
+
+// "A CHECK CONDITION changes nothing."
+pub fn checked(c: Coordinator, k: Condition) -> Outcome
+    ensures { λ r. ⌜ r ≡ outcomeOf c (check k) ⌝ }
+{
+    handed_back(c, Answer::Check(k), 0)
 }
 
 // An opening with the values of its answer.

@@ -10,6 +10,16 @@ use Rattle.lists.proofs.Walk.{Walk, walk-none, walk-more, walk-cons, walk-nil}
 use Rattle.wire.specs.Write.{writes, Wrote}
 use Rattle.wire.proofs.Writing.{Left, left-start, left-step, left-end, wrote-length}
 
+-- what the entries that are left give: the next one's and the rest, or nothing
+module _ {A B : Type 0} (f : A → List B) {l : List A} {size n k : ℕ} (w : Walk l size n k) where
+  pub gather-next : (d : A) → k < n → gather f (drop k (take n l)) ≡ f (getD l k d) ++ gather f (drop (k + 1) (take n l))
+  unfolding gather
+  gather-next d h = rw (walk-cons d w h)
+
+  pub gather-done : n ≤ k → gather f (drop k (take n l)) ≡ []
+  unfolding gather
+  gather-done h = rw (walk-nil w h)
+
 -- the bytes of the entries at some places
 abbrev pub bytesAt : {A : Type 0} → (A → List ℕ) → A → List A → List ℕ → List ℕ
 bytesAt bytes d items places = gather bytes (map (λ i. getD items i d) places)

@@ -1,4 +1,5 @@
 pub mod Append
 pub mod Asked
+pub mod Held
 pub mod Initiator
 pub mod Table

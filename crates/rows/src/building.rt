@@ -3,15 +3,18 @@ ghost use mathlib.Core.Path.{_≡_};
 ghost use Prim.Native.Nat.{_<_, _≤_};
 ghost use lib.ListN.{take, length};
 ghost use Rattle.lists.specs.Lists.{keep, gather};
+ghost use Rattle.lists.specs.Bytes.{sameBytes};
 ghost use Rattle.paper.specs.Contents.{allUnits, held};
 ghost use Rattle.paper.specs.Tables.{enrolmentIn, enrolmentOf, contentOf};
-ghost use Rattle.paper.specs.Rows.{contentFor, rowAt, rowsAt, transportRows, enrolmentRows, ownedBy, rowOfProxy, rowsOf};
+ghost use Rattle.paper.specs.Rows.{isFor, aceFor, rowAt, rowsAt, transportRows, enrolmentRows, ownedBy, rowOfProxy, rowsOf};
 ghost use Rattle.rows.specs.Table.{rowTable};
 ghost use Rattle.paper.specs.declared.state.Ground.the-variants.{GroundX};
 ghost use Rattle.rows.specs.Append.{Joined};
+ghost use Rattle.rows.specs.Held.{heldOf, contentHeld};
 ghost use Rattle.rows.specs.Initiator.{InSetup};
 use crate::table;
 use crate::table::Rows;
+use paper::state;
 use paper::state::Ace;
 use paper::state::Acl;
 use paper::state::Coordinator;
@@ -26,6 +29,7 @@ use paper::state::Token;
 use paper::state::Tokens;
 use paper::state::Units;
 use tables::enrolments;
+use tables::identifiers;
 use tables::lookups;
 use tables::lookups::TokenFound;
 use tables::lookups::capped;
@@ -97,17 +101,73 @@ fn with_ace(rows: Rows, i: u8, g: Ground, a: Ace, units: Units) -> Rows
     }
 }
 
-// The rows of what an identifier holds, which is nothing without an ACE.
-fn with_held(rows: Rows, i: u8, g: Ground, acl: Acl, units: Units, k: IdType, id: &[u8]) -> Rows
-    requires { ⌜ rows .count ≤ 64 ⌝ }
-    ensures { λ r. ⌜ Joined 32 rows (rowsAt i g (held (take (units .count) (units .luns)) (contentFor (take (acl .count) (acl .items)) k (now (id .entry))))) r ⌝ }
+// The ACE of an identifier, if it has one.
+pub struct Held {
+    pub there: bool,
+    pub ace: Ace,
+}
+
+// Whether two runs agree in their first n bytes. It counts those that agree and leaves no byte out, so that the compiler may compare many at once.
+fn agree(a: &[u8], b: &[u8], n: usize) -> bool
+    requires { ⌜ (n ≤ length (now a)) × (n ≤ length (now b)) ⌝ }
+    ensures { λ r. ⌜ r ≡ sameBytes n (now (a .entry)) (now (b .entry)) ⌝ }
+{
+    let mut same: usize = 0;
+    let mut j = 0;
+    while j < n {
+        if a[j] == b[j] {
+            same += 1;
+        }
+        j += 1;
+    }
+    same == n
+}
+
+// Whether an ACE is that of an identifier.
+fn is_held(a: Ace, k: IdType, id: &[u8]) -> bool
+    requires { ⌜ 24 ≤ length (now id) ⌝ }
+    ensures { λ r. ⌜ r ≡ isFor k (now (id .entry)) a ⌝ }
+{
+    let kind = a.kind;
+    let bytes = a.id;
+    if identifiers::type_byte(kind) != identifiers::type_byte(k) {
+        return false;
+    }
+    agree(&bytes, id, identifiers::compared_bytes(kind))
+}
+
+// The ACE of an identifier. It hands the ACE back, and not its place, since each function that looks at a place of the ACL copies it.
+fn held_by(acl: Acl, k: IdType, id: &[u8]) -> Held
+    requires { ⌜ 24 ≤ length (now id) ⌝ }
+    ensures { λ r. ⌜ r ≡ heldOf (aceFor (take (acl .count) (acl .items)) k (now (id .entry))) ⌝ }
 {
     let given = acl.count;
     let count = capped(given, 32);
-    let place = lookups::ace_place(acl, k, id);
-    if place < count {
-        let aces = acl.items;
-        let a = aces[place];
+    let items = acl.items;
+    let mut j = 0;
+    while j < count {
+        let a = items[j];
+        if is_held(a, k, id) {
+            return Held {
+                there: true,
+                ace: a,
+            };
+        }
+        j += 1;
+    }
+    Held {
+        there: false,
+        ace: state::no_ace(),
+    }
+}
+
+// The rows of what an identifier holds, which is nothing without an ACE.
+fn with_held(rows: Rows, i: u8, g: Ground, h: Held, units: Units) -> Rows
+    requires { ⌜ rows .count ≤ 64 ⌝ }
+    ensures { λ r. ⌜ Joined 32 rows (rowsAt i g (held (take (units .count) (units .luns)) (contentHeld h))) r ⌝ }
+{
+    if h.there {
+        let a = h.ace;
         return with_ace(rows, i, g, a, units);
     }
     rows
@@ -115,18 +175,22 @@ fn with_held(rows: Rows, i: u8, g: Ground, acl: Acl, units: Units, k: IdType, id
 
 // The rows of an enrolment, its stage first and then the AccessID: A when enrolled, W when pending.
 fn with_enrolment(rows: Rows, i: u8, c: Coordinator, e: &[u8]) -> Rows
-    requires { ⌜ (rows .count ≤ 64) × (0 < length (now e)) ⌝ }
+    requires { ⌜ (rows .count ≤ 64) × (25 ≤ length (now e)) ⌝ }
     ensures { λ r. ⌜ Joined 32 rows (enrolmentRows c i (enrolmentIn (now (e .entry)))) r ⌝ }
 {
     let acl = c.acl;
     let units = c.units;
     let stage = e[0];
     let id = &e[1..];
+    if stage == 0 {
+        return rows;
+    }
+    let h = held_by(acl, IdType::AccessId, id);
     if stage == 1 {
-        return with_held(rows, i, Ground::GroundA, acl, units, IdType::AccessId, id);
+        return with_held(rows, i, Ground::GroundA, h, units);
     }
     if stage == 2 {
-        return with_held(rows, i, Ground::GroundW, acl, units, IdType::AccessId, id);
+        return with_held(rows, i, Ground::GroundW, h, units);
     }
     rows
 }
@@ -178,15 +242,12 @@ fn with_transport(rows: Rows, i: usize, c: Coordinator) -> Rows
     let units = c.units;
     let initiators = c.initiators;
     let ids = initiators.ids;
-    with_held(
-        rows,
-        i as u8,
-        Ground::GroundT,
+    let h = held_by(
         acl,
-        units,
         IdType::TransportId,
         enrolments::transport_part(&ids, i),
-    )
+    );
+    with_held(rows, i as u8, Ground::GroundT, h, units)
 }
 
 // The rows of an initiator's enrolment.

@@ -17,50 +17,6 @@ use paper::state::ID_SIZE;
 use paper::state::IdType;
 use paper::state::Luacd;
 
-// The ACEs without that of an identifier.
-pub fn aces_without(acl: Acl, k: IdType, id: &[u8]) -> Acl
-    ensures { λ r. ⌜ r ≡ aclOf (keep (otherAce k (now (id .entry))) (take (acl .count) (acl .items))) ⌝ }
-{
-    let given = acl.count;
-    let count = lookups::capped(given, 32);
-    let from = acl.items;
-    let mut items = [state::no_ace(); 32];
-    let mut kept = 0;
-    let mut i = 0;
-    while i < count {
-        let a = from[i];
-        if !lookups::is_for(a, k, id) {
-            items[kept] = a;
-            kept += 1;
-        }
-        i += 1;
-    }
-    Acl {
-        count: kept,
-        items: items,
-    }
-}
-
-// The ACL with one ACE more, behind the others.
-pub fn ace_added(acl: Acl, a: Ace) -> Acl
-    requires { ⌜ acl .count < 32 ⌝ }
-    ensures { λ r. ⌜ r ≡ aclOf (take (acl .count) (acl .items) ++ (a ∷ [])) ⌝ }
-{
-    let count = acl.count;
-    let from = acl.items;
-    let mut items = [state::no_ace(); 32];
-    let mut i = 0;
-    while i < count {
-        items[i] = from[i];
-        i += 1;
-    }
-    items[count] = a;
-    Acl {
-        count: count + 1,
-        items: items,
-    }
-}
-
 pub fn has_ace(acl: Acl, k: IdType, id: &[u8]) -> bool
     ensures { λ r. ⌜ r ≡ isSome (aceFor (take (acl .count) (acl .items)) k (now (id .entry))) ⌝ }
 {

@@ -81,10 +81,3 @@ pub fn emptied(c: Coordinator) -> Coordinator
     );
     setters::with_initiators(bare, enrolments::nobody_enrolled(t))
 }
-
-// A key is taken and access controls go on.
-pub fn switched_on(c: Coordinator, key: u64) -> Coordinator
-    ensures { λ r. ⌜ r ≡ applied (applied c (keyed key)) (switched turnedOn) ⌝ }
-{
-    setters::with_switch(c, true, 1, key)
-}

@@ -1,6 +1,6 @@
 // Identifiers: compared over a length that their type gives, type first.
 ghost use mathlib.Core.Path.{_≡_};
-ghost use Rattle.paper.specs.Identifiers.{typeByte, comparedBytes, sameId, lessId, kept};
+ghost use Rattle.paper.specs.Identifiers.{typeByte, comparedBytes, sameId, kept};
 use crate::lookups;
 use paper::state::ID_SIZE;
 use paper::state::IdType;
@@ -31,21 +31,6 @@ pub fn same_id(k: IdType, a: &[u8], l: IdType, b: &[u8]) -> bool
         return false;
     }
     wire::same(a, b, compared_bytes(k))
-}
-
-// The order of the report: by type, then by identifier.
-pub fn less_id(k: IdType, a: &[u8], l: IdType, b: &[u8]) -> bool
-    ensures { λ r. ⌜ r ≡ lessId k (now (a .entry)) l (now (b .entry)) ⌝ }
-{
-    let first = type_byte(k);
-    let second = type_byte(l);
-    if first < second {
-        return true;
-    }
-    if first != second {
-        return false;
-    }
-    wire::less(a, b, compared_bytes(k))
 }
 
 // An identifier as it is kept: the bytes that are compared, and zeros after them.

@@ -4,6 +4,7 @@ pub mod aces;
 pub mod effects;
 pub mod enrolments;
 pub mod identifiers;
+pub mod keys;
 pub mod lookups;
 pub mod proxies;
 pub mod tokens;

@@ -14,42 +14,43 @@ manage-acl-spec =
     (tie.spec
     (λ c κs. search needs)
     (λ c κs. search needs)
-    (λ c. c .refused .ensures ∙ fails-1 _ _ (sym (c .before .before .all-whole .ensures) ∙ not-true _ (c .before .if1 .taken)))
+    (λ c. c .checked .ensures ∙ fails-1 _ _ (sym (c .before .before .all-whole .ensures) ∙ not-true _ (c .before .if1 .taken)))
+    (λ c κs. search needs)
     (λ c κs. search needs)
     (λ c κs. search needs)
     (λ c.
     let second = c .before in
-    let first = second .before .before in
+    let first = second .before .before .before in
     let whole = sym (first .before .all-whole .ensures) ∙ not-false _ (first .if1 .left) in
-    c .refused2 .ensures ∙ fails-2 _ _ whole (sym (second .before .wrong-key .ensures) ∙ second .if2 .taken))
+    c .checked2 .ensures ∙ fails-2 _ _ whole (sym (rw (second .before .before .key-in .ensures) at (second .before .wrong-key .ensures)) ∙ second .if2 .taken))
     (λ c κs. search needs)
     (λ c κs. search needs)
     (λ c.
     let third = c .before in
     let second = third .before .before in
-    let first = second .before .before in
+    let first = second .before .before .before in
     let whole = sym (first .before .all-whole .ensures) ∙ not-false _ (first .if1 .left) in
-    let key = sym (second .before .wrong-key .ensures) ∙ second .if2 .left in
-    c .refused3 .ensures ∙ fails-3 _ _ whole key (sym (third .before .malformed .ensures) ∙ third .if3 .taken))
+    let key = sym (rw (second .before .before .key-in .ensures) at (second .before .wrong-key .ensures)) ∙ second .if2 .left in
+    c .checked3 .ensures ∙ fails-3 _ _ whole key (sym (third .before .malformed .ensures) ∙ third .if3 .taken))
     (λ c κs. search needs)
     (λ c κs. search needs)
     (λ c.
     let fourth = c .before in
     let third = fourth .before .before in
     let second = third .before .before in
-    let first = second .before .before in
+    let first = second .before .before .before in
     let whole = sym (first .before .all-whole .ensures) ∙ not-false _ (first .if1 .left) in
-    let key = sym (second .before .wrong-key .ensures) ∙ second .if2 .left in
+    let key = sym (rw (second .before .before .key-in .ensures) at (second .before .wrong-key .ensures)) ∙ second .if2 .left in
     let formed = sym (third .before .malformed .ensures) ∙ third .if3 .left in
-    c .refused4 .ensures ∙ fails-4 _ _ whole key formed (sym (fourth .before .some-bad-place .ensures) ∙ fourth .if4 .taken))
+    c .checked4 .ensures ∙ fails-4 _ _ whole key formed (sym (fourth .before .some-bad-place .ensures) ∙ fourth .if4 .taken))
     (λ c κs.
     let third = c .before .before in
     let second = third .before .before in
-    let first = second .before .before in
+    let first = second .before .before .before in
     record {
       stands = first .before .before .before .before .pre;
       whole = sym (first .before .all-whole .ensures) ∙ not-false _ (first .if1 .left);
-      key = sym (second .before .wrong-key .ensures) ∙ second .if2 .left;
+      key = sym (rw (second .before .before .key-in .ensures) at (second .before .wrong-key .ensures)) ∙ second .if2 .left;
       formed = sym (third .before .malformed .ensures) ∙ third .if3 .left;
       placed = sym (c .before .some-bad-place .ensures) ∙ c .if4 .left;
     })

@@ -23,7 +23,7 @@ put-into-effect-spec =
     let full = c .before in
     let asked = full .before .before in
     let passed = asked .before .before .before .before .pre in
-    c .refused .ensures ∙ fails-5 _ _ passed (no-fit _ (sized (counts _ _ passed)) _ _ (asked .managed-aces .ensures) (full .if1 .taken)))
+    c .checked .ensures ∙ fails-5 _ _ passed (no-fit _ (sized (counts _ _ passed)) _ _ (asked .managed-aces .ensures) (full .if1 .taken)))
     (λ c κs. counts _ _ (c .before .before .before .before .before .before .before .pre) .few-initiators)
     (λ c κs.
     let few = counts _ _ (c .before .before .before .before .before .before .before .before .pre) in
@@ -38,7 +38,7 @@ put-into-effect-spec =
     let passed = asked .before .before .before .before .pre in
     let fits = fit _ (sized (counts _ _ passed)) _ _ (asked .managed-aces .ensures) (room .if1 .left) in
     let is = end .end-with .ensures ∙ ap (endWith _ _) (fits .is) in
-    c .refused2 .ensures ∙ fails-6 _ _ passed (fits .fits) (ap someClash (sym is) ∙ sym (clash .some-clash .ensures) ∙ c .before .if2 .taken))
+    c .checked2 .ensures ∙ fails-6 _ _ passed (fits .fits) (ap someClash (sym is) ∙ sym (clash .some-clash .ensures) ∙ c .before .if2 .taken))
     (λ c κs. search needs)
     (λ c.
     let clash = c .before .before in
