@@ -1,25 +1,25 @@
 -- A setup that fills the tables is kept as it is listed, so that the rules may be asked of the tables.
-use Prim.Native.Nat.{ℕ, zero, suc, _+_, _*_, _/_, _%_, _≤_, _<_}
+use Prim.Native.Nat.{ℕ, _+_, _*_, _/_, _%_, _≤_, _<_}
 use mathlib.Core.Path.{_≡_, refl, ap, ap₂, sym, _∙_}
-use mathlib.Core.List.{List, [], _∷_, map, append-nil}
-use mathlib.Core.Bool.{true, false, not}
+use mathlib.Core.List.{List, [], _∷_, map}
+use mathlib.Core.Bool.{true, false}
 use native.Mathlib.Omega.{arith}
 use native.Mathlib.Nat.{add-zero}
-use lib.ListN.{length, take, drop, getD, set, replicate, length-take, length-drop, length-map, List·getD-map}
+use lib.ListN.{length, take, drop, getD, set, replicate, length-map, List·getD-map}
 use lib.Seq.{take-all}
 use lib.Dec.{eqb, leb}
 use borrow.Author.Tests.{eqb-true, leb-true, le-leb}
-use Rattle.lists.specs.Lists.{all, pairs, gather, parts}
-use Rattle.lists.specs.Bytes.{be, sameBytes}
+use Rattle.lists.specs.Lists.{all, gather, parts}
+use Rattle.lists.specs.Bytes.{be}
 use Rattle.lists.proofs.Tests.{split, clashes, and-true}
 use Rattle.lists.proofs.Parts.{length-parts, getD-parts, gather-parts}
 use Rattle.lists.specs.Tables.{pad}
 use Rattle.lists.proofs.Tables.{Built}
 use Rattle.lists.proofs.Rebuild.{Copied, copy-more}
 use Rattle.lists.proofs.Bytes.{be-drop, be-take, be-out}
-use Rattle.wire.specs.Lun.{lunOf, headOf, lunForm}
-use Rattle.paper.specs.Identifiers.{kept, validTransport}
-use Rattle.paper.specs.Setup.{setupRules, idsIn, lunsIn, wholeLun, setupIn, accepted}
+use Rattle.wire.specs.Lun.{headOf, lunForm}
+use Rattle.paper.specs.Identifiers.{kept}
+use Rattle.paper.specs.Setup.{idsIn, lunsIn, wholeLun, setupIn, accepted}
 use Rattle.paper.specs.Tables.{initiatorTable, unitTable}
 use Rattle.paper.specs.Fresh.{nothing, fresh, startedWith, started}
 use Rattle.paper.specs.Standing.{setupKept}
@@ -29,6 +29,10 @@ use Rattle.paper.specs.declared.answers.Answer.the-variants.{Good, Refused}
 use Rattle.paper.specs.declared.state.Initiators.{Initiators}
 use Rattle.paper.specs.declared.state.Units.{Units}
 use Rattle.paper.proofs.Getters.{fresh-units, fresh-transports}
+use Rattle.paper.proofs.Luns.{luns-whole}
+use Rattle.paper.proofs.SetupApart.{setup-apart}
+use Rattle.paper.proofs.SetupBytes.{accepted-so, kept-parts, ids-kept}
+use Rattle.paper.proofs.NothingChanged.{good-setup, bad-setup}
 use Rattle.coordinator.specs.Forms.{fills}
 
 -- ---- the LUNs that are listed
@@ -46,34 +50,11 @@ lun-at s k h =
 pub head-at : (s : List ℕ) (k : ℕ) → k < length s / 8 → getD (map headOf (lunsIn s)) k 0 ≡ headOf (be 8 s (8 * k))
 head-at s k h = List·getD-map headOf (lunsIn s) k 0 ∙ ap headOf (lun-at s k h)
 
--- a LUN of the form is known by its head
-pub lun-back : (l : List ℕ) → all lunForm l ≡ true → map lunOf (map headOf l) ≡ l
-unfolding all
-lun-back [] h = refl
-lun-back (x ∷ l) h =
-    let p = and-true (lunForm x) _ h in
-    let z : x % 281474976710656 ≡ 0 = eqb-true _ _ (and-true (eqb (x % 281474976710656) 0) _ (p .0) .0) in
-    let e : x / 281474976710656 * 281474976710656 ≡ x = omega arith in
-    rw (e, lun-back l (p .1))
-
 -- ---- the TransportIDs that are listed
-kept-whole : (x : List ℕ) → length x ≡ 24 → kept TransportId x ≡ x
-kept-whole x h = rw (take-all 24 x (omega arith), h) (append-nil x)
-
-kept-parts : (n : ℕ) (l : List ℕ) → length l ≡ 24 * n → map (kept TransportId) (parts 24 n l) ≡ parts 24 n l
-unfolding parts
-kept-parts zero l h = refl
-kept-parts (suc n) l h =
-    rw (kept-whole (take 24 l) (simp length-take (omega arith)), kept-parts n (drop 24 l) (simp length-drop (omega arith)))
-
 gather-kept : (l : List (List ℕ)) → gather (kept TransportId) l ≡ gather (λ p. p) (map (kept TransportId) l)
 unfolding gather
 gather-kept [] = refl
 gather-kept (x ∷ l) = rw (gather-kept l)
-
-pub ids-kept : (s : List ℕ) → length s % 24 ≡ 0 → map (kept TransportId) (idsIn s) ≡ idsIn s
-unfolding idsIn
-ids-kept s h = kept-parts (length s / 24) s (omega arith)
 
 pub ids-gathered : (s : List ℕ) → length s % 24 ≡ 0 → gather (kept TransportId) (idsIn s) ≡ s
 unfolding idsIn
@@ -143,18 +124,13 @@ module _ (ids luns : List ℕ) where
       }
 
   accepted-fills : accepted ids luns ≡ true → fills ids luns ≡ true
-  unfolding accepted setupRules fills
+  unfolding fills
   accepted-fills h =
-      let a = and-true (eqb (length ids % 24) 0) _ h in
-      let b = and-true (eqb (length luns % 8) 0) _ (a .1) in
-      let d = and-true (leb (length (idsIn ids)) 16) _ (b .1) in
-      let e = and-true (leb (length (lunsIn luns)) 32) _ (d .1) in
-      let f = and-true (all validTransport (idsIn ids)) _ (e .1) in
-      let g = and-true (not (pairs (sameBytes 24) (idsIn ids))) _ (f .1) in
-      let i = and-true (all lunForm (lunsIn luns)) _ (g .1) in
-      let p : length ids ≤ 384 = omega (arith, eqb-true (length ids % 24) 0 (a .0), leb-true (length (idsIn ids)) 16 (d .0), length-ids ids) in
-      let q : length luns ≤ 256 = omega (arith, eqb-true (length luns % 8) 0 (b .0), leb-true (length (lunsIn luns)) 32 (e .0), length-luns luns) in
-      rw (a .0, b .0, le-leb _ _ p, le-leb _ _ q, i .0)
+      let a = accepted-so ids luns h in
+      let r = setup-apart (idsIn ids) (lunsIn luns) (a .rules) in
+      let p : length ids ≤ 384 = omega (arith, a .whole-ids, r .few-ids, length-ids ids) in
+      let q : length luns ≤ 256 = omega (arith, a .whole-luns, r .few-luns, length-luns luns) in
+      rw (a .whole-ids, a .whole-luns, le-leb _ _ p, le-leb _ _ q, r .forms)
 
   kept-accepted : fills ids luns ≡ true → setupKept (fresh (setupIn ids luns)) ≡ accepted ids luns
   unfolding setupKept accepted
@@ -164,22 +140,18 @@ module _ (ids luns : List ℕ) where
         fresh-transports (setupIn ids luns),
         ids-kept ids (f .whole-ids),
         fresh-units (setupIn ids luns),
-        lun-back (lunsIn luns) (f .formed),
+        luns-whole (lunsIn luns) (f .formed),
         f .whole-ids,
         f .whole-luns,
       )
 
   -- ---- what is started
   pub unfilled : fills ids luns ≡ false → started ids luns ≡ startedWith nothing (Refused BadSetup)
-  unfolding started
   unfilled h =
-      let e : accepted ids luns ≡ false = split (accepted ids luns) (λ p. clashes (accepted-fills p) h) (λ p. p) in
-      rw e
+      bad-setup ids luns (split (accepted ids luns) (λ p. clashes (accepted-fills p) h) (λ p. p))
 
   pub unkept : fills ids luns ≡ true → setupKept (fresh (setupIn ids luns)) ≡ false → started ids luns ≡ startedWith nothing (Refused BadSetup)
-  unfolding started
-  unkept h k = rw (sym (kept-accepted h) ∙ k)
+  unkept h k = bad-setup ids luns (sym (kept-accepted h) ∙ k)
 
   pub begun : fills ids luns ≡ true → setupKept (fresh (setupIn ids luns)) ≡ true → started ids luns ≡ startedWith (setupIn ids luns) Good
-  unfolding started
-  begun h k = rw (sym (kept-accepted h) ∙ k)
+  begun h k = good-setup ids luns (sym (kept-accepted h) ∙ k)

@@ -14,11 +14,11 @@ use Rattle.paper.specs.Contents.{Content, these, everything, holdsNothing}
 use Rattle.paper.specs.Tables.{noAce, aceOf, aclOf}
 use Rattle.paper.specs.Applied.{otherAce, putAce}
 use Rattle.paper.specs.Pages.{pageType, pageId, keptId, isGrant, sameGrant}
+use Rattle.paper.proofs.SameId.{same-kept, kept-same}
 use Rattle.paper.specs.declared.state.IdType.{IdType}
 use Rattle.paper.specs.declared.state.Ace.{Ace}
 use Rattle.paper.specs.declared.state.Acl.{Acl}
 use Rattle.manage.specs.EndState.{inOrder, grantOf, namesId, unnamed, newAces, acesAfter, aclAfter}
-use Rattle.manage.proofs.Kept.{same-kept, kept-same}
 
 neither : (a b : Bool) → not a && not b ≡ not (a || b)
 neither true b = refl

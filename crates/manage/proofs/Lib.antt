@@ -1,4 +1,3 @@
-pub mod Kept
 pub mod Marks
 pub mod Grants
 pub mod EndState

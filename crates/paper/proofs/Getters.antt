@@ -1,7 +1,7 @@
 -- Getters after setters: what was put into a table is what is read from it.
 use Prim.Native.Nat.{ℕ, suc}
 use mathlib.Core.Path.{_≡_, refl, ap}
-use mathlib.Core.List.{List, [], map}
+use mathlib.Core.List.{List, map}
 use native.Mathlib.Omega.{arith}
 use lib.ListN.{length, take, length-take, length-map}
 use Rattle.lists.proofs.Tables.{take-pad, length-pad}

@@ -10,7 +10,7 @@ use borrow.Author.Tests.{leb-true}
 use Rattle.lists.specs.Lists.{_∈_, keep, gather, below}
 use Rattle.lists.specs.Order.{sort}
 use Rattle.lists.specs.Bytes.{beBytes}
-use Rattle.lists.proofs.Members.{all-in, find-in, length-keep}
+use Rattle.lists.proofs.Members.{all-in, length-keep}
 use Rattle.lists.proofs.Bytes.{bytes-length}
 use Rattle.lists.proofs.Parts.{length-gather, length-count}
 use Rattle.lists.proofs.Sums.{gather-over, gather-most, gather-sort, shared-out}
@@ -19,11 +19,12 @@ use Rattle.paper.specs.Sizes.{idSize}
 use Rattle.paper.specs.Identifiers.{kept}
 use Rattle.paper.specs.Contents.{Content, these, everything, Enrolment, notEnrolled, enrolled, pending, numbered, held}
 use Rattle.paper.specs.Tables.{contentBy, contentOf, unitsOf, acesOf, tokensOf, proxiesOf, enrolmentOf, transportOf}
-use Rattle.paper.specs.Rows.{aceFor, contentIn, contentFor, isFor, transportRows, enrolmentRows, tokenFor, proxyRow, rowOfProxy, ownedBy, proxyRows, openRows, rowsOf}
+use Rattle.paper.specs.Rows.{contentFor, transportRows, enrolmentRows, tokenFor, proxyRow, rowOfProxy, ownedBy, proxyRows, openRows, rowsOf}
 use Rattle.paper.specs.Standing.{listedIn, luacdsOf, fewLuacds}
 use Rattle.paper.specs.Reports.{luacdBytes, identifierBytes, grantedBytes, aceBytes, aceBefore, luacdBefore, tokenBefore, tokenBytes, proxyPage, reportPages, reportBytes, reachRows, rowBytes, reachBytes}
 use Rattle.paper.proofs.Getters.{length-kept}
 use Rattle.paper.proofs.Stood.{Counted}
+use Rattle.paper.proofs.GroundRows.{content-by}
 use Rattle.paper.specs.declared.state.IdType.{IdType}
 use Rattle.paper.specs.declared.state.IdType.the-variants.{AccessId, TransportId}
 use Rattle.paper.specs.declared.state.Extent.{Extent}
@@ -88,7 +89,7 @@ listed-few Listed n ls h = simp length-take (omega arith)
 listed-few Everything n ls h = omega arith
 
 -- no ACE lists more than 16 LUACDs
-pub few-listed : (c : Coordinator) → Counted c → (a : Ace) → a ∈ acesOf c → length (luacdsOf a) ≤ 16
+few-listed : (c : Coordinator) → Counted c → (a : Ace) → a ∈ acesOf c → length (luacdsOf a) ≤ 16
 few-listed c h a m = listed-few (a .extent) (a .count) (a .luacds) (leb-true _ _ (all-in fewLuacds (h .few-luacds) m))
 
 -- 32 ACEs with 16 LUACDs each, and 32 tokens
@@ -112,22 +113,13 @@ numbered-length n (l ∷ ls) = ap suc (numbered-length (suc n) ls)
 
 -- an identifier holds at most 32 units
 held-few : (c : Coordinator) → Counted c → (k : IdType) (id : List ℕ) → length (held (unitsOf c) (contentFor (acesOf c) k id)) ≤ 32
-unfolding aceFor
-held-few c h k id = in-option (aceFor (acesOf c) k id) (λ a e. found a e)
+held-few c h k id =
+    content-by (λ x. length (held (unitsOf c) x) ≤ 32) (acesOf c) k id (omega arith) (λ a m. content-few (contentOf a) (few-listed c h a m))
   where
-    units : length (unitsOf c) ≤ 32
-    units = omega (arith, length-take (c .units .count) (c .units .luns), h .few-units)
-
     content-few : (content : Content) → length (listedIn content) ≤ 16 → length (held (unitsOf c) content) ≤ 32
     content-few (these ls) m = omega arith
-    content-few everything m = omega (arith, numbered-length 0 (unitsOf c), units)
-
-    found : (a : Ace) → aceFor (acesOf c) k id ≡ some a → length (held (unitsOf c) (contentOf a)) ≤ 32
-    found a e = content-few (contentOf a) (few-listed c h a (find-in (isFor k id) (acesOf c) e .0))
-
-    in-option : (o : Option Ace) → ((a : Ace) → o ≡ some a → length (held (unitsOf c) (contentOf a)) ≤ 32) → length (held (unitsOf c) (contentIn o)) ≤ 32
-    in-option none f = omega arith
-    in-option (some a) f = f a refl
+    content-few everything m =
+        omega (arith, numbered-length 0 (unitsOf c), length-take (c .units .count) (c .units .luns), h .few-units)
 
 -- the rows of one ground
 transport-few : (c : Coordinator) → Counted c → (i : ℕ) → length (transportRows c i) ≤ 32

@@ -4,25 +4,26 @@ use mathlib.Core.Path.{_≡_, refl, ap, _∙_}
 use mathlib.Core.List.{List, [], _∷_, _++_, map, append-nil}
 use mathlib.Core.Bool.{false}
 use lib.Dec.{eqb}
-use borrow.Author.Tests.{eqb-true, eq-eqb}
+use borrow.Author.Tests.{eq-eqb}
 use native.Mathlib.Omega.{arith}
-use native.Mathlib.Nat.{mul-div-cancel, mul-div-cancel-left}
+use native.Mathlib.Nat.{mul-div-cancel-left}
 use lib.ListN.{length, getD, replicate}
 use lib.Seq.{take-at, drop-at}
 use Rattle.lists.specs.Lists.{_∈_, any, pairs, placeOf, gather}
 use Rattle.lists.specs.Bytes.{be, beBytes}
 use Rattle.lists.proofs.Bytes.{be-at, be-bytes, bytes-length}
 use Rattle.lists.proofs.Members.{map-map, map-same, any-none, in-getD}
-use Rattle.lists.proofs.Tests.{split, clashes, or-false}
-use Rattle.lists.proofs.Tables.{pad-again}
+use Rattle.lists.proofs.Tests.{or-false}
 use Rattle.lists.proofs.Parts.{parts-gather, length-gather}
-use Rattle.wire.specs.Lun.{lunOf, headOf}
+use Rattle.wire.specs.Lun.{lunOf}
 use Rattle.paper.specs.Sizes.{idSize}
 use Rattle.paper.specs.Identifiers.{typeByte, kept}
 use Rattle.paper.specs.Pages.{pageCode, pageLength, idTypeOf, pageType, idLengthIn, pageId, keptId, descriptorIn, descriptorsIn, descriptorRun, isDefault, luacdOf, tokenIn, tokensIn}
 use Rattle.paper.specs.Reports.{luacdBytes, headBytes, identifierBytes, tokenBytes}
 use Rattle.paper.proofs.Getters.{length-kept}
 use Rattle.paper.proofs.Lengths.{length-luacd}
+use Rattle.paper.proofs.SameId.{kept-again}
+use Rattle.paper.proofs.Luns.{head-back, same-lun}
 use Rattle.paper.specs.declared.state.IdType.{IdType}
 use Rattle.paper.specs.declared.state.IdType.the-variants.{AccessId, TransportId}
 use Rattle.paper.specs.declared.state.Luacd.{Luacd}
@@ -30,11 +31,7 @@ use Rattle.paper.specs.declared.state.Descriptor.{Descriptor}
 use Rattle.paper.specs.declared.state.Ace.{Ace}
 use Rattle.paper.specs.declared.state.Token.{Token}
 
--- ---- a LUN
-pub head-back : (h : ℕ) → headOf (lunOf h) ≡ h
-head-back h = mul-div-cancel h (omega arith)
-
--- its eight bytes, at a place
+-- ---- a LUN: its eight bytes, at a place
 whole : (h : ℕ) → h < 65536 → lunOf h < 256 ^ 8
 whole h l = omega arith
 
@@ -53,10 +50,6 @@ type-back : (k : IdType) → idTypeOf (typeByte k) ≡ k
 type-back AccessId = refl
 type-back TransportId = refl
 
-kept-kept : (k : IdType) (id : List ℕ) → kept k (kept k id) ≡ kept k id
-kept-kept AccessId id = pad-again 0 idSize 16 id (omega arith)
-kept-kept TransportId id = pad-again 0 idSize idSize id (omega arith)
-
 module _ (code n : ℕ) (a : Ace) (rest : List ℕ) where
   abbrev pub page : List ℕ
   page = headBytes code n ++ (identifierBytes idSize a ++ rest)
@@ -74,7 +67,7 @@ module _ (code n : ℕ) (a : Ace) (rest : List ℕ) where
   page-id = take-at (kept (a .kind) (a .id)) rest idSize (length-kept (a .kind) (a .id))
 
   pub page-kept : keptId page ≡ kept (a .kind) (a .id)
-  page-kept = rw (page-type, page-id) (kept-kept (a .kind) (a .id))
+  page-kept = rw (page-type, page-id) (kept-again (a .kind) (a .id))
 
   pub page-run : descriptorRun idSize page ≡ rest
   unfolding identifierBytes beBytes
@@ -102,10 +95,6 @@ unfolding descriptorIn luacdBytes
 luacd-back luns p f = rw (first-back _ _ (whole _ (f .lun)), second-back _ _ (whole _ (f .default)))
 
 -- the unit with a default LUN, where all of them are different
-other-lun : (x y : ℕ) → eqb x y ≡ false → eqb (lunOf x) (lunOf y) ≡ false
-other-lun x y h =
-    split (eqb (lunOf x) (lunOf y)) (λ e. let q = eqb-true (lunOf x) (lunOf y) e in clashes (eq-eqb x y (omega arith)) h) (λ e. e)
-
 unit-back : (luns : List ℕ) (u : ℕ) → u < length luns → pairs eqb luns ≡ false → placeOf (isDefault (lunOf (getD luns u 0))) luns ≡ u
 unfolding pairs placeOf
 unit-back [] u h d = absurd (omega arith)
@@ -113,7 +102,7 @@ unit-back (x ∷ l) zero h d = rw (eq-eqb (lunOf x) (lunOf x) refl)
 unit-back (x ∷ l) (suc u) h d =
     let parted = or-false (any (eqb x) l) (pairs eqb l) d in
     let inside : u < length l = omega arith in
-    rw (other-lun x (getD l u 0) (any-none (eqb x) (parted .0) (in-getD 0 l u inside))) (ap suc (unit-back l u inside (parted .1)))
+    rw (same-lun x (getD l u 0) ∙ any-none (eqb x) (parted .0) (in-getD 0 l u inside)) (ap suc (unit-back l u inside (parted .1)))
 
 pub place-back : (luns : List ℕ) (p : Luacd) → p .unit < length luns → pairs eqb luns ≡ false → luacdOf luns (sentAs luns p) ≡ p
 place-back luns p h d = rw (head-back (p .lun), unit-back luns (p .unit) h d)

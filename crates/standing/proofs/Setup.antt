@@ -1,15 +1,14 @@
 -- The setup rules, by the tables that a coordinator keeps.
-use Prim.Native.Nat.{ℕ, _*_, _≤_}
-use mathlib.Core.Path.{_≡_, ap, _∙_}
+use Prim.Native.Nat.{_≤_}
+use mathlib.Core.Path.{_≡_, _∙_}
 use mathlib.Core.List.{map}
 use mathlib.Core.Bool.{not, _&&_}
 use native.Mathlib.Omega.{arith}
-use borrow.Author.Tests.{le-leb, eq-eqb, eqb-true}
+use borrow.Author.Tests.{le-leb}
 use lib.ListN.{length, length-take, length-map}
 use lib.Dec.{eqb, leb}
 use Rattle.lists.specs.Lists.{all, pairs}
 use Rattle.lists.specs.Bytes.{sameBytes}
-use Rattle.lists.proofs.Tests.{same-test}
 use Rattle.lists.proofs.Members.{all-map, pairs-map}
 use Rattle.lists.proofs.Parts.{length-parts}
 use Rattle.lists.proofs.Places.{pairs-same}
@@ -18,11 +17,8 @@ use Rattle.paper.specs.Identifiers.{validTransport}
 use Rattle.paper.specs.Setup.{setupRules}
 use Rattle.paper.specs.Tables.{unitsOf, transportsOf}
 use Rattle.paper.specs.Standing.{lunFormed, setupKept}
+use Rattle.paper.proofs.Luns.{same-lun}
 use Rattle.paper.specs.declared.state.Coordinator.{Coordinator}
-
-same-lun : (x y : ℕ) → eqb (lunOf x) (lunOf y) ≡ eqb x y
-same-lun x y =
-    same-test (λ e. let q : x * 281474976710656 ≡ y * 281474976710656 = eqb-true _ _ e in eq-eqb x y (omega arith)) (λ e. eq-eqb _ _ (ap lunOf (eqb-true x y e)))
 
 pub setup-by : (c : Coordinator) → length (c .units .luns) ≡ 32 → setupKept c ≡ leb (c .initiators .count) 16 && (all validTransport (transportsOf c) && (not (pairs (sameBytes 24) (transportsOf c)) && (all lunFormed (unitsOf c) && not (pairs eqb (unitsOf c)))))
 unfolding setupKept setupRules
