@@ -61,3 +61,4 @@ pub mod FreedRoom
 pub mod Revoking
 pub mod ProxyCount
 pub mod TokensInRuns
+pub mod NeverRefused2
