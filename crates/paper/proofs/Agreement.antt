@@ -5,7 +5,6 @@ use mathlib.Core.List.{List, [], _∷_}
 use mathlib.Core.Bool.{true}
 use lib.ListN.{length}
 use Rattle.lists.specs.Lists.{find}
-use Rattle.paper.specs.Identifiers.{kept}
 use Rattle.paper.specs.Setup.{Setup, idsIn, setupIn, accepted}
 use Rattle.paper.specs.Fresh.{fresh}
 use Rattle.paper.specs.Rows.{aceFor, tokenFor}

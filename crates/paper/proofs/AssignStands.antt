@@ -9,7 +9,7 @@ use lib.ListN.{length-append}
 use lib.Dec.{eqb}
 use borrow.Author.Tests.{eqb-true, lt-ltb}
 use Rattle.lists.specs.Lists.{_∈_, keep, any, gather}
-use Rattle.lists.proofs.Tests.{split, clashes}
+use Rattle.lists.proofs.Tests.{split}
 use Rattle.lists.proofs.Members.{any-none, none-any, keep-append, pairs-last}
 use Rattle.lists.proofs.Parts.{gather-append}
 use Rattle.wire.specs.Lun.{headOf}

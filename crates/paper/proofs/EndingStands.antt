@@ -8,7 +8,7 @@ use native.Mathlib.Omega.{arith}
 use lib.ListN.{length}
 use borrow.Author.Tests.{eqb-true, eq-eqb, not-true}
 use Rattle.lists.specs.Lists.{keep, pairs}
-use Rattle.lists.proofs.Tests.{clashes, split}
+use Rattle.lists.proofs.Tests.{split}
 use Rattle.lists.proofs.Members.{Once, only, from-keep, find-keep, once-pairs, pairs-keep, length-keep}
 use Rattle.paper.specs.Tables.{tokensOf, proxiesOf, enrolmentOf, withTokens, withProxies}
 use Rattle.paper.specs.Rows.{hasNumber, tokenFor, proxyRow, rowOfProxy, ownedBy, transportRows, proxyRows, openRows, clashing}

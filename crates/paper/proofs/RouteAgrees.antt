@@ -18,7 +18,7 @@ use Rattle.paper.specs.Readings.{History}
 use Rattle.paper.proofs.Stood.{stood}
 use Rattle.paper.proofs.Invariant.{Holds}
 use Rattle.paper.proofs.OwnRows.{rows-own}
-use Rattle.paper.proofs.RowsStand.{initiators, row-stands, stands-row}
+use Rattle.paper.proofs.RowsStand.{row-stands, stands-row}
 use Rattle.paper.proofs.ReachNames.{reach-names, one-unit-listed}
 use Rattle.paper.specs.declared.state.Row.{Row}
 use Rattle.paper.specs.declared.state.Coordinator.{Coordinator}
