@@ -1,0 +1,10 @@
+pub mod Taking
+pub mod LentSize
+pub mod Told
+pub mod Runs
+pub mod Digits
+pub mod Printed
+pub mod Lengths
+pub mod Exits
+pub mod Lent
+pub mod LentSlice
