@@ -22,7 +22,7 @@ use Rattle.paper.specs.declared.state.IdType.{IdType}
 use Rattle.paper.specs.declared.state.IdType.the-variants.{AccessId, TransportId}
 use Rattle.paper.specs.declared.state.Descriptor.{Descriptor}
 use Rattle.paper.specs.declared.state.Coordinator.{Coordinator}
-use Rattle.manage.specs.EndState.{inOrder, enrolledBy, removes, endsAs, endsUnder, initiatorsBy, initiatorsAfter, liveBy, liveAfter, liveOf, endWith, endState}
+use Rattle.manage.specs.EndState.{inOrder, enrolledBy, removes, endsAs, endsUnder, initiatorsBy, initiatorsAfter, liveBy, liveAfter, liveOf, grantedWith, revokedBy, endWith, endState}
 use Rattle.manage.proofs.Marks.{length-descriptors}
 use Rattle.manage.proofs.Grants.{aclBy, acl-pages}
 
@@ -117,7 +117,7 @@ flush-applied c false = refl
 
 -- ---- all of it
 pub end-state : (c : Coordinator) (list : List ℕ) → generationRight c ≡ true → pairs sameGrant (acePages list) ≡ false → managed c list ≡ endState c list
-unfolding manageEffects endWith initiatorsAfter liveAfter
+unfolding manageEffects grantedWith revokedBy initiatorsAfter liveAfter
 end-state c list g h =
     let luns = unitsOf c in
     let pages = gather (pageEffects luns) (acePages list) in

@@ -18,7 +18,7 @@ use Rattle.paper.specs.declared.state.Initiators.{Initiators}
 use Rattle.paper.specs.declared.state.Coordinator.{Coordinator}
 use Rattle.paper.specs.declared.answers.Condition.the-variants.{WrongLength, WrongKey, BadList, BadLun, Clash, NoRoom}
 use Rattle.paper.specs.declared.answers.Answer.the-variants.{Good}
-use Rattle.manage.specs.EndState.{inOrder, endsUnder, initiatorsBy, initiatorsAfter, acesAfter, crowded, endWith, endState}
+use Rattle.manage.specs.EndState.{inOrder, endsUnder, initiatorsBy, initiatorsAfter, acesAfter, crowded, grantedWith, revokedBy, endWith, endState}
 use Rattle.manage.specs.Phases.{Passed, answerTo}
 use Rattle.manage.proofs.EndState.{end-state}
 use Rattle.manage.proofs.Room.{too-many}
@@ -30,9 +30,13 @@ count-pages [] t = refl
 count-pages (page ∷ pages) t =
     count-pages pages (initiatorsBy page t) ∙ split (endsUnder page) (λ e. rw e) (λ e. rw e)
 
-pub count-kept : (c : Coordinator) (list : List ℕ) (acl : Acl) → endWith c list acl .initiators .count ≡ c .initiators .count
-unfolding endWith initiatorsAfter
-count-kept c list acl = count-pages (acePages list) _ ∙ split (flushIn list) (λ e. rw e) (λ e. rw e)
+pub count-granted : (c : Coordinator) (list : List ℕ) (acl : Acl) → grantedWith c list acl .initiators .count ≡ c .initiators .count
+unfolding grantedWith initiatorsAfter
+count-granted c list acl = count-pages (acePages list) _ ∙ split (flushIn list) (λ e. rw e) (λ e. rw e)
+
+pub count-revoked : (list : List ℕ) (c : Coordinator) → revokedBy list c .initiators .count ≡ c .initiators .count
+unfolding revokedBy
+count-revoked list c = refl
 
 -- ---- phases 1 to 4, on the list
 module _ (c : Coordinator) (list : List ℕ) where

@@ -21,7 +21,7 @@ use Rattle.paper.specs.declared.state.Ace.{Ace}
 use Rattle.paper.specs.declared.state.Acl.{Acl}
 use Rattle.paper.specs.declared.state.Coordinator.{Coordinator}
 use Rattle.manage.specs.declared.aces.Aces.{Aces}
-use Rattle.manage.specs.EndState.{unnamed, newAces, acesAfter, aclAfter, crowded, endWith, endState}
+use Rattle.manage.specs.EndState.{unnamed, newAces, acesAfter, aclAfter, crowded, grantedWith, revokedBy, endWith, endState}
 use Rattle.manage.specs.Aces.{Uncrowded, Sized, fitting, fitted, fittedAfter}
 use Rattle.manage.proofs.Grants.{aces-none}
 
@@ -98,6 +98,6 @@ pub sized : {c : Coordinator} → Counted c → Sized (c .acl)
 sized h = record { few = h .few-aces; small = h .few-luacds }
 
 pub too-many : (c : Coordinator) (list : List ℕ) → Counted c → tooMany (endState c list) ≡ crowded (acesAfter (unitsOf c) (acePages list) (acesOf c))
-unfolding tooMany endWith
+unfolding tooMany grantedWith revokedBy
 too-many c list h =
     many-after (c .acl) (sized h) (unitsOf c) (acePages list)

@@ -101,10 +101,19 @@ unfoldable pub crowded : List Ace → Bool
 crowded aces = ltb maxAces (length aces) || any manyLuacds aces
 
 -- ---- all of it
-unfoldable pub endWith : Coordinator → List ℕ → Acl → Coordinator
-endWith c list acl =
-    coordinatorOf true 1 (newKeyIn list) (initiatorsAfter list (c .initiators)) (c .units) acl
+-- the grant pages applied, tokens and proxy LUNs as they were
+unfoldable pub grantedWith : Coordinator → List ℕ → Acl → Coordinator
+grantedWith c list acl =
+    coordinatorOf true 1 (newKeyIn list) (initiatorsAfter list (c .initiators)) (c .units) acl (c .tokens) (c .proxies)
+
+-- and then pages 02h and 03h
+unfoldable pub revokedBy : List ℕ → Coordinator → Coordinator
+revokedBy list c =
+    coordinatorOf (c .enabled) (c .generation) (c .key) (c .initiators) (c .units) (c .acl)
     (liveAfter list (liveOf c) .tokens) (liveAfter list (liveOf c) .proxies)
+
+abbrev pub endWith : Coordinator → List ℕ → Acl → Coordinator
+endWith c list acl = revokedBy list (grantedWith c list acl)
 
 abbrev pub endState : Coordinator → List ℕ → Coordinator
 endState c list = endWith c list (aclAfter (unitsOf c) (acePages list) (c .acl))

@@ -10,7 +10,7 @@ ghost use Rattle.paper.specs.Standing.{standing};
 ghost use Rattle.paper.specs.Pages.{keyIn, acePages, manageEffects};
 ghost use Rattle.paper.specs.Commands.{manageTests};
 ghost use Rattle.paper.specs.Outcomes.{check, good, judged, outcomeOf};
-ghost use Rattle.manage.specs.EndState.{endWith};
+ghost use Rattle.manage.specs.EndState.{grantedWith, revokedBy};
 ghost use Rattle.manage.specs.Aces.{Sized, fittedAfter};
 ghost use Rattle.manage.specs.Phases.{Passed, answerTo};
 use crate::aces;
@@ -43,10 +43,20 @@ fn managed_aces(acl: Acl, units: Units, list: &[u8]) -> Aces
     aces::aces_after(acl, &luns[..count], header::pages_in(list))
 }
 
-// The end state, with its ACL.
-fn end_with(c: Coordinator, list: &[u8], acl: Acl) -> Coordinator
+// "The new key is then taken, access controls are on, FLUSH turns every enrolled initiator pending", and the grant pages have applied.
+fn granted_with(c: Coordinator, list: &[u8], acl: Acl) -> Coordinator
     requires { ⌜ c .initiators .count ≤ 16 ⌝ }
-    ensures { λ r. ⌜ r ≡ endWith c (now (list .entry)) acl ⌝ }
+    ensures { λ r. ⌜ r ≡ grantedWith c (now (list .entry)) acl ⌝ }
+{
+    let t = c.initiators;
+    let initiators = enrolments::initiators_after(t, list);
+    let on = setters::with_switch(c, true, 1, header::new_key_in(list));
+    setters::with_acl(setters::with_initiators(on, initiators), acl)
+}
+
+// Pages 02h and 03h have applied too. They change no table that a grant page changes, so they may come after all of those.
+fn revoked_by(c: Coordinator, list: &[u8]) -> Coordinator
+    ensures { λ r. ⌜ r ≡ revokedBy (now (list .entry)) c ⌝ }
 {
     let ts = c.tokens;
     let ps = c.proxies;
@@ -57,11 +67,7 @@ fn end_with(c: Coordinator, list: &[u8], acl: Acl) -> Coordinator
     let left = live::live_after(before, header::pages_in(list));
     let tokens = left.tokens;
     let proxies = left.proxies;
-    let t = c.initiators;
-    let initiators = enrolments::initiators_after(t, list);
-    let on = setters::with_switch(c, true, 1, header::new_key_in(list));
-    let granted = setters::with_acl(setters::with_initiators(on, initiators), acl);
-    setters::with_proxies(setters::with_tokens(granted, tokens), proxies)
+    setters::with_proxies(setters::with_tokens(c, tokens), proxies)
 }
 
 // Phases 5 and 6, which are asked of the end state alone. It is put into effect if it passes both.
@@ -76,7 +82,8 @@ fn put_into_effect(c: Coordinator, list: &[u8]) -> Outcome
         return outcomes::checked(c, Condition::NoRoom);
     }
     let next = after.acl;
-    let end = end_with(c, list, next);
+    let granted = granted_with(c, list, next);
+    let end = revoked_by(granted, list);
     if clashes::some_clash(end) {
         return outcomes::checked(c, Condition::Clash);
     }
