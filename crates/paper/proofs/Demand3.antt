@@ -1,5 +1,5 @@
 -- The third demand, as the auditor reads it. A setup is accepted; then come any commands, of any bytes, initiator number, random number and lent buffer, and any link events, refused ones among them, and each call keeps its contract. Then the reach list names every ground of access that stands in the history read from the transcript, each once, in order, and no other.
-use Prim.Native.Nat.{ℕ, _<_}
+use Prim.Native.Nat.{ℕ, _≤_, _<_}
 use mathlib.Core.Path.{_≡_, ap, sym, _∙_, subst}
 use mathlib.Core.Bool.{true, false}
 use mathlib.Core.List.{List, []}
@@ -8,7 +8,7 @@ use native.Mathlib.Omega.{arith}
 use lib.ListN.{length, take}
 use lib.Seq.{take-all}
 use lib.Dec.{ltb}
-use borrow.Author.Tests.{ltb-false}
+use borrow.Author.Tests.{ltb-false, le-leb}
 use Rattle.lists.specs.Lists.{_∈_}
 use Rattle.lists.specs.Bytes.{deliver}
 use Rattle.lists.proofs.Tests.{split}
@@ -20,8 +20,9 @@ use Rattle.paper.specs.Outcomes.{Decision, refuse, good, inRoom, decideR
 use Rattle.paper.specs.Reports.{reachRows, reachBytes}
 use Rattle.paper.specs.Readings.{History, isOn, Stands, OneUnit}
 use Rattle.paper.specs.Runs.{Entry, took, Names}
-use Rattle.paper.specs.Contracts.{SetupKept, ReachKept, Calls}
+use Rattle.paper.specs.Contracts.{SetupKept, CommandKept, LinkKept, RouteKept, ReachKept, Calls}
 use Rattle.paper.proofs.NothingChanged.{good-setup, bad-setup}
+use Rattle.paper.proofs.NeverRefused2.{command-not-2, link-not-2, reach-not-2, route-not-2}
 use Rattle.paper.proofs.Invariant.{Holds}
 use Rattle.paper.proofs.RunHolds.{start-holds, calls-hold}
 use Rattle.paper.proofs.ReachNames.{names-unique, reach-names, one-unit, one-unit-listed}
@@ -31,11 +32,12 @@ use Rattle.paper.specs.declared.state.Row.{Row}
 use Rattle.paper.specs.declared.state.Coordinator.{Coordinator}
 use Rattle.paper.specs.declared.outcomes.Outcome.{Outcome}
 use Rattle.paper.specs.declared.outcomes.Started.{Started}
+use Rattle.paper.specs.declared.outcomes.Opening.{Opening}
 use Rattle.paper.specs.declared.answers.Refusal.{Refusal}
-use Rattle.paper.specs.declared.answers.Refusal.the-variants.{ShortBuffer}
+use Rattle.paper.specs.declared.answers.Refusal.the-variants.{BadState, NoInitiator, ShortBuffer}
 use Rattle.paper.specs.declared.answers.Answer.the-variants.{Good, Refused}
 use Rattle.paper.specs.declared.answers.Condition.the-variants.{PendingEnrolled}
-use Rattle.paper.specs.declared.answers.Opened.the-variants.{Opens, Closed}
+use Rattle.paper.specs.declared.answers.Opened.the-variants.{Opens, Closed, Barred}
 
 -- ---- a setup that is answered GOOD was accepted, and starts a fresh coordinator
 refused-not-good : {n : Refusal} → Refused n ≡ Good → ⊥
@@ -77,9 +79,24 @@ module _ (ids luns : List ℕ) (s : Started) (kept : SetupKept ids luns s) (ok :
       let first = started-fresh ids luns s kept ok in
       calls-hold w (s .state) (subst (λ x. Holds w [] x) (sym first) (start-holds ids luns (was-accepted ids luns s kept ok))) c es calls
 
-  -- standing is kept, so that refusal 2 never arises
+  -- standing is kept
   pub always-stands : standing c ≡ true
   always-stands = run-holds .stands
+
+  -- so refusal 2 is not the answer to anything that is asked of the state
+  pub command-never-2 : (i : ℕ) (cdb list : List ℕ) (random : ℕ) (buffer : List ℕ) (r : Outcome) (after : List ℕ) → CommandKept c i cdb list random buffer r after → r .answer ≡ Refused BadState → ⊥
+  command-never-2 i cdb list random buffer r after k q =
+      command-not-2 c always-stands i cdb list random (length buffer) (sym (ap (λ x. x .answer) (k .0)) ∙ q)
+
+  pub link-never-2 : (i : ℕ) (r : Outcome) → LinkKept c i r → r .answer ≡ Refused BadState → ⊥
+  link-never-2 i r k q = link-not-2 c always-stands i (sym (ap (λ x. x .answer) k) ∙ q)
+
+  pub reach-never-2 : (buffer : List ℕ) (r : Outcome) (after : List ℕ) → ReachKept c buffer r after → r .answer ≡ Refused BadState → ⊥
+  reach-never-2 buffer r after k q =
+      reach-not-2 c always-stands (length buffer) (sym (ap (λ x. x .answer) (k .0)) ∙ q)
+
+  pub route-never-2 : (i l : ℕ) (r : Opening) → RouteKept c i l r → r .opened ≡ Barred BadState → ⊥
+  route-never-2 i l r k q = route-not-2 c always-stands i l (sym (ap (λ x. x .opened) k) ∙ q)
 
   -- "the reach list names every ground of access that stands, each once, in order, and no other"
   pub reach-list : Names (reachRows c) (Stands w h)
@@ -105,7 +122,12 @@ module _ (ids luns : List ℕ) (s : Started) (kept : SetupKept ids luns s) (ok :
   pub list-while-off : isOn h ≡ false → Names (reachRows c) (Open w)
   list-while-off off = off-names w h c run-holds off
 
-  -- the route question agrees with the list
+  -- the route question of an initiator that is not there is refusal 3
+  pub route-absent : (i l : ℕ) → c .initiators .count ≤ i → routed c i l ≡ Barred NoInitiator
+  unfolding routed
+  route-absent i l absent = rw (always-stands, le-leb (c .initiators .count) i absent)
+
+  -- the route question of one that is there agrees with the list
   module _ (i : ℕ) (there : i < c .initiators .count) (l : ℕ) where
     pub route-opens : (u : ℕ) → (routed c i l ≡ Opens u) ↔ ((x : Listed c i l notW) × (x .row .unit ≡ u))
     route-opens u = (

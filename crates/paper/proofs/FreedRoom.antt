@@ -21,11 +21,11 @@ use Rattle.paper.specs.Grounds.{isTA}
 use Rattle.paper.specs.Contents.{Enrolment, notEnrolled, enrolled, pending, held}
 use Rattle.paper.specs.Tables.{unitsOf, transportOf, enrolmentOf, acesOf, tokensOf, proxiesOf}
 use Rattle.paper.specs.Rows.{contentFor, rowAt, transportRows, enrolmentRows, tokenFor, proxyRow, ownedBy, rowOfProxy, proxyRows, rowsOf, hasLun, rowWith, pendingHas}
-use Rattle.paper.specs.Orders.{requestToken, order, serviceAction, lengthField, operation, readIn, readingOf}
-use Rattle.paper.specs.Effects.{issued, tokening}
+use Rattle.paper.specs.Orders.{Order, requestToken, assign, order, serviceAction, lengthField, operation, exactly, readIn, readOut, readingOf}
+use Rattle.paper.specs.Effects.{Effect, issued, assigned, tokening, proxying}
 use Rattle.paper.specs.InForce.{inForce, effects}
 use Rattle.paper.specs.Commands.{Verdict, fails, passes, failing, requestTests, assignTests, tests}
-use Rattle.paper.specs.Outcomes.{Decision, refuse, check, good, judged, inRoom, replyTo, decideOrder, decideReading, decideCommand}
+use Rattle.paper.specs.Outcomes.{Decision, refuse, check, good, judged, inRoom, replyTo, decideOrder, decideReading, owed, decideCommand}
 use Rattle.paper.specs.Readings.{History, isOn, enrolment, givenTo, enrolledUnder, givenByT, givenByA, atLun, placeNamed, token, issuedLessEnded, usable}
 use Rattle.paper.specs.Reports.{reachRows}
 use Rattle.paper.proofs.Stood.{stood, counted}
@@ -34,6 +34,7 @@ use Rattle.paper.proofs.ProxyCount.{isX, x-rows-count}
 use Rattle.paper.proofs.Invariant.{Holds}
 use Rattle.paper.proofs.Given.{holds-given, transport-given}
 use Rattle.paper.proofs.GroundRows.{rows-on}
+use Rattle.paper.proofs.OnlyWhileOn.{place-on}
 use Rattle.paper.proofs.RowsStand.{initiators}
 use Rattle.paper.specs.declared.state.Ground.the-variants.{GroundA, GroundT, GroundW}
 use Rattle.paper.specs.declared.state.IdType.the-variants.{AccessId, TransportId}
@@ -42,6 +43,7 @@ use Rattle.paper.specs.declared.state.ProxyLun.{ProxyLun}
 use Rattle.paper.specs.declared.state.Row.{Row}
 use Rattle.paper.specs.declared.state.Coordinator.{Coordinator}
 use Rattle.paper.specs.declared.answers.Refusal.the-variants.{ShortBuffer}
+use Rattle.paper.specs.declared.answers.Condition.{Condition}
 use Rattle.paper.specs.declared.answers.Condition.the-variants.{PendingEnrolled, BadLun, DeadToken, NoRoom}
 
 -- "the LUN must open by a T or A row"
@@ -58,6 +60,46 @@ pub record Requests (cdb : List ℕ) (l : ℕ) : Type 0 where
   pub action : serviceAction cdb ≡ 0x04
   pub lun : be 8 cdb 2 ≡ l
   pub allocation : 8 ≤ lengthField cdb
+
+-- a CDB and a parameter list that assign a proxy LUN: "16 (09h, token then LUN)"
+pub record Assigns (cdb list : List ℕ) (n l : ℕ) : Type 0 where
+  pub size : length cdb ≡ 16
+  pub opcode : operation cdb ≡ 0x87
+  pub action : serviceAction cdb ≡ 0x09
+  pub told : lengthField cdb ≡ 16
+  pub given : length list ≡ 16
+  pub number : be 8 list 0 ≡ n
+  pub lun : be 8 list 8 ≡ l
+
+-- these are read as the orders that they give
+pub read-request : {cdb : List ℕ} {l : ℕ} → Requests cdb l → readingOf cdb [] ≡ order (requestToken l)
+unfolding readingOf readIn
+read-request {cdb} k = rw (k .opcode, k .action, le-ltb (lengthField cdb) 8 (k .allocation), k .lun)
+
+pub read-assign : {cdb list : List ℕ} {n l : ℕ} → Assigns cdb list n l → readingOf cdb list ≡ order (assign n l)
+unfolding readingOf readOut exactly
+read-assign k = rw (k .opcode, k .action, k .given, k .number, k .lun)
+
+-- a CHECK CONDITION is the answer where a test fails with it, and nowhere else, whatever buffer is lent
+check-fails : (room : ℕ) (v : Verdict) (es : List Effect) (bytes : List ℕ) (k : Condition) → inRoom room (judged v (good es bytes)) ≡ check k → v ≡ fails k
+check-fails room (fails x) es bytes k q = let same : x ≡ k = cc in ap fails same
+check-fails room passes es bytes k q = absurd (delivered (ltb room (length bytes)) q)
+  where
+    delivered : (b : Bool) → cond b (refuse ShortBuffer) (good es bytes) ≡ check k → ⊥
+    delivered true p = let z : _≡_ {A = ℕ} 0 1 = cc in omega arith
+    delivered false p = let z : _≡_ {A = ℕ} 0 1 = cc in omega arith
+
+-- tests that pass fail with nothing
+passes-not : {k : Condition} → passes ≡ fails k → ⊥
+passes-not e = let z : _≡_ {A = ℕ} 0 1 = cc in omega arith
+
+-- ---- a command whose bytes are read as an order, of an initiator that is there: the order in force decides
+ordered : (w : Setup) (h : History) (c : Coordinator) → Holds w h c → (on : Bool) → isOn h ≡ on → (i : ℕ) → i < length (w .transports) → (cdb list : List ℕ) (random room : ℕ) (o : Order) → length cdb ≡ 16 → length list ≡ owed cdb → readingOf cdb list ≡ order o → decideCommand c i cdb list random room ≡ inRoom room (decideOrder c i random (inForce on o))
+unfolding decideCommand decideReading
+ordered w h c holds on e i n cdb list random room o size owes read =
+    let within : i < c .initiators .count = omega (arith, n, initiators w h c holds) in
+    let decided : decideReading c i random (readingOf cdb list) ≡ decideOrder c i random (inForce on o) = ap (decideReading c i random) read ∙ ap (λ b. decideOrder c i random (inForce b o)) (holds .agrees .on ∙ e) in
+    rw (holds .stands, lt-leb (c .initiators .count) i within, eq-eqb (length cdb) 16 size, eq-eqb (length list) (owed cdb) owes, decided)
 
 either : {a b x y : Bool} → a ≡ x → b ≡ y → a || b ≡ x || y
 either p q = rw (p, q)
@@ -122,40 +164,39 @@ module _ (w : Setup) (h : History) (c : Coordinator) (holds : Holds w h c) (i l 
       rw (opened, lt-leb 32 (c .tokens .count) few, not-true (eqb random 0) nonzero, dead)
 
   -- ---- the command itself
-  read-request : {cdb : List ℕ} → Requests cdb l → readingOf cdb [] ≡ order (requestToken l)
-  unfolding readingOf readIn
-  read-request {cdb} k =
-      rw (k .opcode, k .action, le-ltb (lengthField cdb) 8 (k .allocation), k .lun)
-
   -- GOOD of a request: the number is issued, and its eight bytes are delivered
   abbrev granting : ℕ → Decision
   granting random = good (tokening (issued i l random) ∷ []) (beBytes 8 random)
 
-  decide-request : isOn h ≡ true → (random : ℕ) → decideReading c i random (order (requestToken l)) ≡ judged (requestTests c i l random) (granting random)
-  unfolding decideReading decideOrder inForce tests effects replyTo
-  decide-request on random =
-      ap (λ b. decideOrder c i random (inForce b (requestToken l))) (holds .agrees .on ∙ on)
+  -- what a request's bytes are decided to be, while access controls are on or off
+  asked : (on : Bool) → isOn h ≡ on → i < length (w .transports) → (cdb : List ℕ) (random room : ℕ) → Requests cdb l → decideCommand c i cdb [] random room ≡ inRoom room (decideOrder c i random (inForce on (requestToken l)))
+  asked on e n cdb random room k =
+      ordered w h c holds on e i n cdb [] random room (requestToken l) (k .size) (rw (k .opcode)) (read-request k)
 
-  decide-cdb : isOn h ≡ true → i < length (w .transports) → (cdb : List ℕ) (random room : ℕ) → Requests cdb l → decideCommand c i cdb [] random room ≡ inRoom room (judged (requestTests c i l random) (granting random))
-  unfolding decideCommand
-  decide-cdb on n cdb random room k =
-      let within : i < c .initiators .count = omega (arith, n, initiators w h c holds) in
-      let decided = ap (decideReading c i random) (read-request k) ∙ decide-request on random in
-      rw (holds .stands, lt-leb (c .initiators .count) i within, eq-eqb (length cdb) 16 (k .size), k .opcode, decided)
+  -- while they are on, its tests decide
+  asked-on : isOn h ≡ true → i < length (w .transports) → (cdb : List ℕ) (random room : ℕ) → Requests cdb l → decideCommand c i cdb [] random room ≡ inRoom room (judged (requestTests c i l random) (granting random))
+  unfolding decideOrder inForce tests effects replyTo
+  asked-on on n cdb random room k = asked true on n cdb random room k
 
-  -- REQUEST PROXY TOKEN is GOOD
-  pub request-good : isOn h ≡ true → i < length (w .transports) → c .tokens .count ≡ length (tokensOf c) → (cdb : List ℕ) (random room : ℕ) → Requests cdb l → 8 ≤ room → isSome (placeNamed w h i l) ≡ true → usable w h random ≡ true → issuedLessEnded w h < 32 → decideCommand c i cdb [] random room ≡ good (tokening (issued i l random) ∷ []) (beBytes 8 random)
-  request-good on n sized cdb random room k lent there u free =
-      decide-cdb on n cdb random room k
+  -- "IN 04h is GOOD with 0 bytes" while access controls are off
+  asked-off : isOn h ≡ false → i < length (w .transports) → (cdb : List ℕ) (random room : ℕ) → Requests cdb l → decideCommand c i cdb [] random room ≡ inRoom room (good [] [])
+  unfolding decideOrder inForce tests effects replyTo
+  asked-off off n cdb random room k = asked false off n cdb random room k
+
+  -- REQUEST PROXY TOKEN is GOOD. A LUN names a place only while access controls are on
+  pub request-good : i < length (w .transports) → c .tokens .count ≡ length (tokensOf c) → (cdb : List ℕ) (random room : ℕ) → Requests cdb l → 8 ≤ room → isSome (placeNamed w h i l) ≡ true → usable w h random ≡ true → issuedLessEnded w h < 32 → decideCommand c i cdb [] random room ≡ good (tokening (issued i l random) ∷ []) (beBytes 8 random)
+  request-good n sized cdb random room k lent there u free =
+      let on = place-on w h c holds i l there in
+      asked-on on n cdb random room k
       ∙ (ap (λ v. inRoom room (judged v (granting random))) (request-room on n sized random there u free)
       ∙ rw (bytes-length 8 random, le-ltb room 8 lent))
 
-  -- ---- whether or not the LUN opens anything, and whatever buffer is lent, 55h/05h is not the answer
-  pub never-full : isOn h ≡ true → i < length (w .transports) → c .tokens .count ≡ length (tokensOf c) → (random : ℕ) → usable w h random ≡ true → issuedLessEnded w h < 32 → requestTests c i l random ≡ fails NoRoom → ⊥
+  -- ---- whether or not the LUN opens anything, whatever buffer is lent, and whether access controls are on or off, 55h/05h is not the answer
+  never-full : isOn h ≡ true → i < length (w .transports) → c .tokens .count ≡ length (tokensOf c) → (random : ℕ) → usable w h random ≡ true → issuedLessEnded w h < 32 → requestTests c i l random ≡ fails NoRoom → ⊥
   unfolding requestTests
   never-full on n sized random u room q =
       split (isSome (placeNamed w h i l))
-      (λ there. let p = sym (request-room on n sized random there u room) ∙ q in let z : _≡_ {A = ℕ} 0 1 = cc in omega arith)
+      (λ there. passes-not (sym (request-room on n sized random there u room) ∙ q))
       (λ absent. closed (opens-named on n ∙ absent))
     where
       closed : isSome (rowWith isTA l (rowsOf c i)) ≡ false → ⊥
@@ -165,17 +206,13 @@ module _ (w : Setup) (h : History) (c : Coordinator) (holds : Holds w h c) (i l 
           other true p = let z : _≡_ {A = ℕ} 0 1 = cc in omega arith
           other false p = let z : _≡_ {A = ℕ} 0 1 = cc in omega arith
 
-  pub never-answers-full : isOn h ≡ true → i < length (w .transports) → c .tokens .count ≡ length (tokensOf c) → (cdb : List ℕ) (random room : ℕ) → Requests cdb l → usable w h random ≡ true → issuedLessEnded w h < 32 → decideCommand c i cdb [] random room ≡ check NoRoom → ⊥
-  never-answers-full on n sized cdb random room k u free q =
-      by (requestTests c i l random) refl (sym (decide-cdb on n cdb random room k) ∙ q)
-    where
-      delivered : (b : Bool) → cond b (refuse ShortBuffer) (granting random) ≡ check NoRoom → ⊥
-      delivered true p = let z : _≡_ {A = ℕ} 0 1 = cc in omega arith
-      delivered false p = let z : _≡_ {A = ℕ} 0 1 = cc in omega arith
-
-      by : (v : Verdict) → requestTests c i l random ≡ v → inRoom room (judged v (granting random)) ≡ check NoRoom → ⊥
-      by (fails x) e p = let same : x ≡ NoRoom = cc in never-full on n sized random u free (e ∙ ap fails same)
-      by passes e p = delivered (ltb room (length (beBytes 8 random))) p
+  pub never-answers-full : i < length (w .transports) → c .tokens .count ≡ length (tokensOf c) → (cdb : List ℕ) (random room : ℕ) → Requests cdb l → usable w h random ≡ true → issuedLessEnded w h < 32 → decideCommand c i cdb [] random room ≡ check NoRoom → ⊥
+  never-answers-full n sized cdb random room k u free q =
+      split (isOn h)
+      (λ on.
+      never-full on n sized random u free
+      (check-fails room (requestTests c i l random) (tokening (issued i l random) ∷ []) (beBytes 8 random) NoRoom (sym (asked-on on n cdb random room k) ∙ q)))
+      (λ off. passes-not (check-fails room passes [] [] NoRoom (sym (asked-off off n cdb random room k) ∙ q)))
 
 -- ---- "ASSIGN checks 20h/0Ah; 20h/09h (form, or any row of the caller has the LUN); 55h/05h exactly when 32 proxy LUNs stand."
 abbrev assigning : Bool → Bool → Bool → Verdict
@@ -187,7 +224,7 @@ full-only true true full q = absurd (let z : _≡_ {A = ℕ} 0 1 = cc in omega a
 full-only true false true q = (refl, refl, refl)
 full-only true false false q = absurd (let z : _≡_ {A = ℕ} 0 1 = cc in omega arith)
 
-pub assign-room : (w : Setup) (h : History) (c : Coordinator) → Holds w h c → (i n l : ℕ) → (assignTests c i n l ≡ fails NoRoom) ↔ ((isSome (token w h n) ≡ true) × (lunForm l ≡ true) × (any (hasLun l) (rowsOf c i) ≡ false) × (32 ≤ c .proxies .count))
+assign-room : (w : Setup) (h : History) (c : Coordinator) → Holds w h c → (i n l : ℕ) → (assignTests c i n l ≡ fails NoRoom) ↔ ((isSome (token w h n) ≡ true) × (lunForm l ≡ true) × (any (hasLun l) (rowsOf c i) ≡ false) × (32 ≤ c .proxies .count))
 unfolding assignTests
 assign-room w h c holds i n l = (
   λ q.
@@ -198,11 +235,30 @@ assign-room w h c holds i n l = (
 )
 
 -- with the X rows of the list for the proxy LUNs that stand, of which there are never more than 32
-pub assign-full : (w : Setup) (h : History) (c : Coordinator) → Holds w h c → Counts c → (i n l : ℕ) → (assignTests c i n l ≡ fails NoRoom) ↔ ((isSome (token w h n) ≡ true) × (lunForm l ≡ true) × (any (hasLun l) (rowsOf c i) ≡ false) × (length (keep isX (reachRows c)) ≡ 32))
+assign-full : (w : Setup) (h : History) (c : Coordinator) → Holds w h c → Counts c → (i n l : ℕ) → (assignTests c i n l ≡ fails NoRoom) ↔ ((isSome (token w h n) ≡ true) × (lunForm l ≡ true) × (any (hasLun l) (rowsOf c i) ≡ false) × (length (keep isX (reachRows c)) ≡ 32))
 assign-full w h c holds s i n l =
     let most = counted c (stood c (holds .stands) .counts) .few-proxies in
     let same : c .proxies .count ≡ length (keep isX (reachRows c)) = s .proxies ∙ sym (x-rows-count c (holds .stands)) in
     let room = assign-room w h c holds i n l in (
       λ q. let (live, form, free, full) = room .0 q in (live, form, free, omega (arith, most, same, full)),
       λ k. room .1 (k .0, k .1, k .2, omega (arith, same, k .3)),
+    )
+
+-- "09h is 20h/0Ah" while access controls are off: it stays in force, and finds no live token
+assign-in-force : (on : Bool) (n l : ℕ) → inForce on (assign n l) ≡ assign n l
+unfolding inForce
+assign-in-force true n l = refl
+assign-in-force false n l = refl
+
+-- of the answer to the command, whether access controls are on or off
+pub assign-answers-full : (w : Setup) (h : History) (c : Coordinator) → Holds w h c → Counts c → (i n l : ℕ) → i < length (w .transports) → (cdb list : List ℕ) (random room : ℕ) → Assigns cdb list n l → (decideCommand c i cdb list random room ≡ check NoRoom) ↔ ((isSome (token w h n) ≡ true) × (lunForm l ≡ true) × (any (hasLun l) (rowsOf c i) ≡ false) × (length (keep isX (reachRows c)) ≡ 32))
+unfolding decideOrder tests effects replyTo
+assign-answers-full w h c holds s i n l there cdb list random room k =
+    let full = assign-full w h c holds s i n l in
+    let tested : decideCommand c i cdb list random room ≡ inRoom room (judged (assignTests c i n l) (good (proxying (assigned i l n) ∷ []) [])) =
+    ordered w h c holds (isOn h) refl i there cdb list random room (assign n l) (k .size) (rw (k .opcode, k .told, k .given)) (read-assign k)
+    ∙ ap (λ o. inRoom room (decideOrder c i random o)) (assign-in-force (isOn h) n l)
+    in (
+      λ q. full .0 (check-fails room (assignTests c i n l) (proxying (assigned i l n) ∷ []) [] NoRoom (sym tested ∙ q)),
+      λ r. tested ∙ ap (λ v. inRoom room (judged v (good (proxying (assigned i l n) ∷ []) []))) (full .1 r),
     )

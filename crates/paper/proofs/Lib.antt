@@ -56,9 +56,12 @@ pub mod RunHolds
 pub mod Demand3
 pub mod TableCounts
 pub mod Revoked
+pub mod Issuing
 pub mod Outlives
+pub mod OnlyWhileOn
 pub mod FreedRoom
 pub mod Revoking
 pub mod ProxyCount
 pub mod TokensInRuns
 pub mod NeverRefused2
+pub mod NeverInRuns

@@ -1,8 +1,9 @@
 -- Refusal 2 is given for a state that breaks a standing rule and for no other, so that it never arises in a run from an accepted setup.
 use Prim.Native.Nat.{ℕ}
 use mathlib.Core.Path.{_≡_, refl, ap}
-use mathlib.Core.Bool.{Bool, true, false, not}
+use mathlib.Core.Bool.{Bool, true, false, cond, not}
 use mathlib.Core.List.{List, []}
+use mathlib.Core.Option.{Option, some, none}
 use native.Mathlib.Omega.{arith}
 use lib.ListN.{length}
 use lib.Dec.{eqb, leb, ltb}
@@ -13,13 +14,19 @@ use Rattle.paper.specs.Effects.{Effect}
 use Rattle.paper.specs.InForce.{inForce, effects}
 use Rattle.paper.specs.Commands.{Verdict, fails, passes, tests}
 use Rattle.paper.specs.Tables.{unitsOf}
+use Rattle.paper.specs.Grounds.{opensBy}
+use Rattle.paper.specs.Rows.{rowsOf, rowWith, pendingHas}
 use Rattle.paper.specs.Reports.{reachBytes}
-use Rattle.paper.specs.Outcomes.{Decision, refuse, check, good, replyTo, judged, decideOrder, decideReading, owed, inRoom, decideCommand, decideLink, decideReach, outcomeOf}
+use Rattle.paper.specs.Outcomes.{Decision, refuse, check, good, replyTo, judged, decideOrder, decideReading, owed, inRoom, decideCommand, decideLink, decideReach, outcomeOf, opensOr, opens, routed}
+use Rattle.paper.specs.declared.state.Row.{Row}
 use Rattle.paper.specs.declared.state.Coordinator.{Coordinator}
 use Rattle.paper.specs.declared.answers.Refusal.{Refusal}
 use Rattle.paper.specs.declared.answers.Refusal.the-variants.{BadSetup, BadState, NoInitiator, BadCdb, BadParameters, ShortBuffer}
 use Rattle.paper.specs.declared.answers.Condition.{Condition}
+use Rattle.paper.specs.declared.answers.Condition.the-variants.{PendingEnrolled, OpensNothing}
 use Rattle.paper.specs.declared.answers.Answer.the-variants.{Refused}
+use Rattle.paper.specs.declared.answers.Opened.{Opened}
+use Rattle.paper.specs.declared.answers.Opened.the-variants.{Opens, Closed, Barred}
 
 abbrev isTwo : Refusal → Bool
 isTwo BadSetup = false
@@ -56,6 +63,16 @@ not-two c (refusal {n} e) q = let two : n ≡ BadState = cc in clashes (ap isTwo
 not-two c checked q = let z : _≡_ {A = ℕ} 0 1 = cc in absurd (omega arith)
 not-two c fine q = let z : _≡_ {A = ℕ} 0 1 = cc in absurd (omega arith)
 
+-- the same of the route question: rows answer a unit or a CHECK CONDITION
+abbrev barsTwo : Opened → Bool
+barsTwo (Opens u) = false
+barsTwo (Closed k) = false
+barsTwo (Barred n) = isTwo n
+
+rows-answer : (o : Option Row) (k : Condition) → barsTwo (opensOr o k) ≡ false
+rows-answer none k = refl
+rows-answer (some r) k = refl
+
 module _ (c : Coordinator) (stands : standing c ≡ true) where
   command-other : (i : ℕ) (cdb list : List ℕ) (random room : ℕ) → Other (decideCommand c i cdb list random room)
   unfolding decideCommand
@@ -82,3 +99,10 @@ module _ (c : Coordinator) (stands : standing c ≡ true) where
 
   pub reach-not-2 : (room : ℕ) → outcomeOf c (decideReach c room) .answer ≡ Refused BadState → ⊥
   reach-not-2 room = not-two c (reach-other room)
+
+  pub route-not-2 : (i l : ℕ) → routed c i l ≡ Barred BadState → ⊥
+  unfolding routed opens
+  route-not-2 i l q =
+      let rows = rows-answer (rowWith opensBy l (rowsOf c i)) (cond (pendingHas l (rowsOf c i)) PendingEnrolled OpensNothing) in
+      let other : barsTwo (routed c i l) ≡ false = rw stands (both (λ o. barsTwo o ≡ false) (leb (c .initiators .count) i) refl rows) in
+      clashes (ap barsTwo q) other

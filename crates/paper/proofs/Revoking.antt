@@ -159,6 +159,10 @@ no-issue n (tokening (issued i l k)) m = clashes m refl
 no-issue n (tokening (ended e)) m = refl
 no-issue n (proxying x) m = refl
 
+pub manage-no-issue : (luns : List ℕ) (on : Bool) (list : List ℕ) (n : ℕ) → any (issues n) (manageEffects luns on list) ≡ false
+manage-no-issue luns on list n =
+    none-any (issues n) (manageEffects luns on list) (λ x k. no-issue n x (all-in managing (manage-manages luns on list) k))
+
 -- an end is no assignment, and no issue
 end-no-proxying : (e : Ending) (x : Proxying) → tokening (ended e) ∈ (proxying x ∷ []) → ⊥
 end-no-proxying e x m = ⊎-elim (λ k. let z : _≡_ {A = ℕ} 0 1 = cc in omega arith) (λ j. elim j [ ]) (in-cons m)
@@ -189,8 +193,7 @@ module _ (w : Setup) (h : History) (luns : List ℕ) (on : Bool) (i random : ℕ
   order-ends-live (reportAcl key room) n m q = elim m [ ]
   order-ends-live (requestToken l) n m q = absurd (end-no-issue e i l random m)
   order-ends-live (manageAcl list) n m q =
-      dead-after w h (manageEffects luns on list) e n t m
-      (none-any (issues n) (manageEffects luns on list) (λ x k. no-issue n x (all-in managing (manage-manages luns on list) k))) q
+      dead-after w h (manageEffects luns on list) e n t m (manage-no-issue luns on list n) q
   order-ends-live (disable key) n m q = dead-after w h (switched turnedOff ∷ []) e n t m refl q
   order-ends-live (enroll id) n m q = dead-after w h (enrolling (joined i (kept AccessId id)) ∷ []) e n t m refl q
   order-ends-live cancel n m q = dead-after w h (enrolling (left i) ∷ []) e n t m refl q
