@@ -187,7 +187,7 @@ impl<'a> Words<'a> {
 }
 
 /// Digits alone, zeros in front allowed, below 2^64.
-fn decimal(word: &[u8]) -> Option<u64> {
+pub fn decimal(word: &[u8]) -> Option<u64> {
     if word.is_empty() {
         return None;
     }

@@ -7,8 +7,11 @@
 //! `ground` and `fault` (words for what stands and what fails), `rows` (what an
 //! initiator reaches), `pages`, `manage` and `commands` (what changes the tables),
 //! `report` (the bytes), `coordinator` (the order of tests), `journal` (the text),
+//! `replay` and `table`, on which `audit` and `acl` stand (what a person reads),
 //! then `make` and `cover`, which only serve the tests.
 
+pub mod acl;
+pub mod audit;
 pub mod bytes;
 pub mod commands;
 pub mod coordinator;
@@ -20,7 +23,9 @@ pub mod lines;
 pub mod make;
 pub mod manage;
 pub mod pages;
+pub mod replay;
 pub mod report;
 pub mod rows;
 pub mod setup;
 pub mod state;
+pub mod table;

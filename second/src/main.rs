@@ -1,12 +1,15 @@
-//! `second answer`, `second make` and `second cover`.
+//! `second answer`, `audit`, `acl`, `make` and `cover`.
 
-use second::{cover, journal, make};
+use second::{acl, audit, cover, journal, make};
 use std::fs::File;
 use std::io::{self, BufRead, BufReader, BufWriter};
 use std::process::ExitCode;
 
 const USAGE: &str = "\
 second answer < JOURNAL              the answer lines
+second audit UNIT [FROM TO] [tsv] < JOURNAL
+                                     who could open that unit, when, and on what ground
+second acl < JOURNAL                 the state after the last line, in words
 second make SEED RUNS [THEME]        a journal of RUNS setups, each with its run
 second cover [--strict] [JOURNAL ..] what journals cover (standard input, if none is named);
                                      --strict fails if an item is missing, or if of several
@@ -14,8 +17,9 @@ second cover [--strict] [JOURNAL ..] what journals cover (standard input, if non
 ";
 
 fn main() -> ExitCode {
-    let words: Vec<String> = std::env::args().skip(1).collect();
-    let words: Vec<&str> = words.iter().map(String::as_str).collect();
+    let words: Vec<_> = std::env::args_os().skip(1).collect();
+    let words: Vec<_> = words.iter().map(|word| word.to_string_lossy()).collect();
+    let words: Vec<&str> = words.iter().map(AsRef::as_ref).collect();
     match run(&words) {
         Ok(code) => code,
         Err(error) => {
@@ -28,10 +32,15 @@ fn main() -> ExitCode {
 fn run(words: &[&str]) -> io::Result<ExitCode> {
     let mut output = BufWriter::new(io::stdout().lock());
     match words {
-        ["answer"] => journal::answer(&mut BufReader::new(io::stdin().lock()), &mut output)?,
+        ["answer"] => journal::answer(&mut input(), &mut output)?,
+        ["audit", rest @ ..] => match audit::Question::read(rest) {
+            Ok(question) => audit::audit(&question, &mut input(), &mut output, &mut io::stderr())?,
+            Err(expected) => return Ok(usage(&format!("audit: {expected}"))),
+        },
+        ["acl"] => acl::acl(&mut input(), &mut output, &mut io::stderr())?,
         ["make", rest @ ..] => match make::Order::read(rest) {
             Some(order) => make::make(&order, &mut output)?,
-            None => return Ok(usage()),
+            None => return Ok(usage("make: expected SEED RUNS [THEME]")),
         },
         ["cover", "--strict", files @ ..] => {
             let whole = cover::cover(journals(files)?, &mut output)?;
@@ -40,9 +49,13 @@ fn run(words: &[&str]) -> io::Result<ExitCode> {
         ["cover", files @ ..] => {
             cover::cover(journals(files)?, &mut output)?;
         }
-        _ => return Ok(usage()),
+        _ => return Ok(usage("expected one of the following")),
     }
     Ok(ExitCode::SUCCESS)
+}
+
+fn input() -> impl BufRead {
+    BufReader::new(io::stdin().lock())
 }
 
 /// The named journals, or the one on standard input.
@@ -57,7 +70,10 @@ fn journals(files: &[&str]) -> io::Result<Vec<Box<dyn BufRead>>> {
     Ok(journals)
 }
 
-fn usage() -> ExitCode {
-    eprintln!("{USAGE}themes: {}", make::THEMES.join(", "));
+fn usage(fault: &str) -> ExitCode {
+    eprintln!(
+        "second: {fault}\n{USAGE}themes: {}",
+        make::THEMES.join(", ")
+    );
     ExitCode::from(2)
 }

@@ -35,6 +35,17 @@ impl Shelf {
         shelf
     }
 
+    pub fn journal(&self) -> &str {
+        &self.journal
+    }
+
+    /// Comments until the next line told is the one with this number.
+    pub fn go_to(&mut self, line: usize) {
+        while self.journal.matches('\n').count() + 1 < line {
+            self.journal.push_str("#\n");
+        }
+    }
+
     pub fn tell(&mut self, line: &str) -> String {
         self.journal.push_str(line);
         self.journal.push('\n');
