@@ -8,3 +8,5 @@ pub mod Lengths
 pub mod Exits
 pub mod Lent
 pub mod LentSlice
+pub mod Spelled
+pub mod RoundTrip

@@ -26,7 +26,7 @@ too-long line used b l h k =
     sym (take-append-le 262145 (take used line) (b ∷ []) (omega (arith, length-take used line)) ∙ rw full (take-take 262145 262145 line (omega arith)))
 
 -- what goes on behind what was kept goes on behind what there was
-cut-twice : (n : ℕ) (s t : List ℕ) → take n (take n s ++ t) ≡ take n (s ++ t)
+pub cut-twice : (n : ℕ) (s t : List ℕ) → take n (take n s ++ t) ≡ take n (s ++ t)
 cut-twice n s t =
     split-le n (length s)
     (λ h. take-append-le n (take n s) t (omega (arith, length-take n s)) ∙ (take-take n n s (omega arith) ∙ sym (take-append-le n s t h)))

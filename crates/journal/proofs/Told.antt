@@ -25,11 +25,12 @@ use Rattle.journal.specs.declared.statement.Kind.the-variants.{Keyword, 
 use Rattle.journal.specs.Replay.{isLent, spoiledFrom, othersText, untouchedText, checkedText, lentText, plainText, openedText}
 use Rattle.journal.proofs.Lent.{isSpoiled}
 
--- ---- numbers and bytes
-either-most : (b : Bool) (n : ℕ) (l m : List ℕ) → length l ≤ n → length m ≤ n → length (cond b l m) ≤ n
+-- ---- a text that a test decides
+pub either-most : (b : Bool) (n : ℕ) (l m : List ℕ) → length l ≤ n → length m ≤ n → length (cond b l m) ≤ n
 either-most true n l m h k = h
 either-most false n l m h k = k
 
+-- ---- numbers and bytes
 digits-most : (k n : ℕ) → length (digitsUpTo k n) ≤ k
 unfolding digitsUpTo
 digits-most zero n = omega arith

@@ -2,6 +2,7 @@ pub mod Words
 pub mod Kinds
 pub mod Statements
 pub mod Texts
+pub mod Written
 pub mod Replay
 pub mod Lines
 pub mod TakenIn

@@ -19,7 +19,7 @@ fn hex_char(d: u8) -> u8
 }
 
 // A byte as two digits, in lower case.
-fn put_pair(buf: &mut [u8], at: usize, limit: usize, b: u8) -> usize
+pub fn put_pair(buf: &mut [u8], at: usize, limit: usize, b: u8) -> usize
     requires { ⌜ at + 2 ≤ 4294967296 ⌝ }
     ensures { λ r. ⌜ Wrote limit at (byteText b) (now (buf .entry)) r (now (buf .exit)) ⌝ }
 {

@@ -78,7 +78,7 @@ pub fn put_line(text: &mut [u8], at: usize, limit: usize, number: u64) -> usize
 }
 
 // What a word was expected to be.
-pub fn put_kind(text: &mut [u8], at: usize, limit: usize, kind: Kind) -> usize
+fn put_kind(text: &mut [u8], at: usize, limit: usize, kind: Kind) -> usize
     requires { ⌜ at + 52 ≤ 4294967296 ⌝ }
     ensures { λ r. ⌜ Wrote limit at (kindText kind) (now (text .entry)) r (now (text .exit)) ⌝ }
 {

@@ -1,0 +1,4 @@
+pub mod Ledger
+pub mod Cells
+pub mod Sentence
+pub mod Deeds
