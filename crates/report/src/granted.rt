@@ -13,7 +13,8 @@ use crate::paged;
 use paper::state::Ace;
 use paper::state::Extent;
 
-fn luacd_keys(a: Ace) -> [u64; 16]
+// Each LUACD's LUN, to put the LUACDs in order by.
+pub fn luacd_keys(a: Ace) -> [u64; 16]
     requires { ⌜ a .count ≤ 16 ⌝ }
     ensures { λ r. ⌜ KeysBy ByLun noLuacd (a .luacds) (a .count) r ⌝ }
 {

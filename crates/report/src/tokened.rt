@@ -12,7 +12,8 @@ use crate::ordering;
 use crate::paged;
 use paper::state::Tokens;
 
-fn token_keys(tokens: Tokens) -> [u64; 32]
+// Each token's number, to put the tokens in order by.
+pub fn token_keys(tokens: Tokens) -> [u64; 32]
     requires { ⌜ tokens .count ≤ 32 ⌝ }
     ensures { λ r. ⌜ KeysBy ByNumber noToken (tokens .items) (tokens .count) r ⌝ }
 {

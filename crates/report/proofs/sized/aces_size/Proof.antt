@@ -14,7 +14,7 @@ use Rattle.paper.specs.Reports.{aceBytes}
 use Rattle.paper.proofs.Lengths.{length-ace}
 use Rattle.report.proofs.Ordered.{entry-there}
 use Rattle.report.proofs.Listing.{gather-next, gather-done}
-use Rattle.report.proofs.IdOrder.{past}
+use Rattle.report.specs.Places.{past}
 use Rattle.report.proofs.sized.aces_size.Statement.{statement}
 use Rattle.report.proofs.sized.aces_size.Tie as tie
 

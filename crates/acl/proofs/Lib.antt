@@ -1,0 +1,5 @@
+pub mod Turns
+pub mod Sorted
+pub mod Named
+pub mod Ranked
+pub mod Most

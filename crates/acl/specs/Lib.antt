@@ -1,0 +1,3 @@
+pub mod Words
+pub mod State
+pub mod Keys
