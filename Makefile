@@ -25,6 +25,7 @@ fuzz:
 
 bench:
 	tests/bench
+	tests/bench-journal
 
 fmt:
 	rt fmt
