@@ -25,6 +25,16 @@ abbrev μ-loop : tie.MeasureT-loop
 μ-loop task chunk line₀ first₀ second₀ reply₀ text₀ standing₀ next₀ ended₀ q₀ k₀ line first second reply text standing next ended q k =
     length chunk - k
 
+-- where a part of the chunk was answered, in its turn of the loop
+abbrev done : tie.After-struct-known Inv-loop μ-loop → tie.After-one-line Inv-loop μ-loop
+done c = c .before .before .before .before .before .before .before .before .before .before .before .before .before .before .before .before .before .before
+
+abbrev turn : tie.After-one-line Inv-loop μ-loop → tie.In-loop Inv-loop μ-loop
+turn c = c .before .before .before .before .before .before .before .before .before .before
+
+abbrev start : tie.In-loop Inv-loop μ-loop → tie.Start Inv-loop μ-loop
+start c = c .before .before .before .before .before .before .before .before .before .before .before
+
 pub fed-spec : {M : Type 1} → statement M
 fed-spec =
     tie.close
@@ -36,18 +46,34 @@ fed-spec =
     (λ c. omega (arith, c .before .loop .inv .0))
     (λ c. search needs)
     (λ c κs. let v = c .before .before .before .before .before .before .before .before .before .before .loop .inv in let pre = c .before .before .before .before .before .before .before .before .before .before .before .before .before .before .before .before .before .before .before .before .pre .0 in (record { first-room = omega (arith, pre .first-room, v .3 .1); second-room = omega (arith, pre .second-room, v .3 .2); reply-room = v .3 .3 ∙ pre .reply-room; text-room = omega (arith, pre .text-room, v .3 .4); standing-room = v .3 .5 ∙ pre .standing-room; next-room = v .3 .6 ∙ pre .next-room; ended-room = v .3 .7 ∙ pre .ended-room }, (omega (arith, c .before .before .before .before .before .before .before .before .before .before .before .before .before .before .before .before .before .before .before .before .pre .1 .0, v .3 .0), v .1, omega (arith, rest-length (c .before .before .before .before .before .before .before .before .before .before .loop .k) (now (c .before .before .before .before .before .before .before .before .before .before .before .before .before .before .before .before .before .before .before .before .args .chunk)), c .before .before .before .before .before .before .before .before .before .loop-test .taken), omega (arith, c .before .before .before .before .before .before .before .before .before .before .before .before .before .before .before .before .before .before .before .before .pre .1 .2, v .2, c .before .before .before .before .before .before .before .before .before .loop-test .taken))))
-    (λ c. c .before .before .before .before .before .before .before .before .before .before .before .before .before .before .before .before .before .before .before .one-line .kept .1 .1 .1 .0 ∙ c .before .before .before .before .before .before .before .before .before .before .before .before .before .before .before .before .before .before .before .before .before .before .before .before .before .before .before .before .before .before .loop .inv .3 .0)
-    (λ c. c .before .before .before .before .before .before .before .before .before .before .before .before .before .before .before .before .before .before .before .one-line .kept .1 .1 .1 .1 .0 ∙ c .before .before .before .before .before .before .before .before .before .before .before .before .before .before .before .before .before .before .before .before .before .before .before .before .before .before .before .before .before .before .loop .inv .3 .1)
-    (λ c. c .before .before .before .before .before .before .before .before .before .before .before .before .before .before .before .before .before .before .before .one-line .kept .1 .1 .1 .1 .1 .0 ∙ c .before .before .before .before .before .before .before .before .before .before .before .before .before .before .before .before .before .before .before .before .before .before .before .before .before .before .before .before .before .before .loop .inv .3 .2)
-    (λ c. c .before .before .before .before .before .before .before .before .before .before .before .before .before .before .before .before .before .before .before .one-line .kept .1 .1 .1 .1 .1 .1 .0 ∙ c .before .before .before .before .before .before .before .before .before .before .before .before .before .before .before .before .before .before .before .before .before .before .before .before .before .before .before .before .before .before .loop .inv .3 .3)
-    (λ c. c .before .before .before .before .before .before .before .before .before .before .before .before .before .before .before .before .before .before .before .one-line .kept .1 .1 .1 .1 .1 .1 .1 .0 ∙ c .before .before .before .before .before .before .before .before .before .before .before .before .before .before .before .before .before .before .before .before .before .before .before .before .before .before .before .before .before .before .loop .inv .3 .4)
-    (λ c. c .before .before .before .before .before .before .before .before .before .before .before .before .before .before .before .before .before .before .before .one-line .kept .1 .1 .1 .1 .1 .1 .1 .1 .0 ∙ c .before .before .before .before .before .before .before .before .before .before .before .before .before .before .before .before .before .before .before .before .before .before .before .before .before .before .before .before .before .before .loop .inv .3 .5)
-    (λ c. c .before .before .before .before .before .before .before .before .before .before .before .before .before .before .before .before .before .before .before .one-line .kept .1 .1 .1 .1 .1 .1 .1 .1 .1 .0 ∙ c .before .before .before .before .before .before .before .before .before .before .before .before .before .before .before .before .before .before .before .before .before .before .before .before .before .before .before .before .before .before .loop .inv .3 .6)
-    (λ c. c .before .before .before .before .before .before .before .before .before .before .before .before .before .before .before .before .before .before .before .one-line .kept .1 .1 .1 .1 .1 .1 .1 .1 .1 .1 .0 ∙ c .before .before .before .before .before .before .before .before .before .before .before .before .before .before .before .before .before .before .before .before .before .before .before .before .before .before .before .before .before .before .loop .inv .3 .7)
-    (λ c. let v = c .before .before .before .before .before .before .before .before .before .before .before .before .before .before .before .before .before .before .before .before .before .before .before .before .before .before .before .before .before .before .loop .inv in ((c .before .before .before .before .before .before .before .before .before .before .before .before .before .before .before .before .before .before .before .one-line .ensures .0 .0, omega (arith, c .before .before .before .before .before .before .before .before .before .before .before .before .before .before .before .before .before .before .before .one-line .ensures .0 .1, v .2, c .before .before .before .before .before .before .before .before .before .before .before .before .before .before .before .before .before .before .before .before .before .before .before .before .before .before .before .before .before .loop-test .taken)), λ x a g. clashes g (not-true _ (c .if1 .taken))))
-    (λ c. let sum : c .before .before .before .before .before .before .before .before .before .before .before .before .before .before .before .before .before .before .before .before .before .before .before .before .before .before .before .before .before .before .loop .k + c .before .before .before .before .before .before .before .before .before .before .before .before .before .before .before .before .before .before .before .one-line .result .eaten < 18446744073709551616 = omega (arith, c .before .before .before .before .before .before .before .before .before .before .before .before .before .before .before .before .before .before .before .before .before .before .before .before .before .before .before .before .before .before .before .before .before .before .before .before .before .before .before .before .pre .1 .2, c .before .before .before .before .before .before .before .before .before .before .before .before .before .before .before .before .before .before .before .one-line .ensures .0 .2, c .before .before .before .before .before .before .before .before .before .before .before .before .before .before .before .before .before .before .before .one-line .ensures .0 .3, rest-length (c .before .before .before .before .before .before .before .before .before .before .before .before .before .before .before .before .before .before .before .before .before .before .before .before .before .before .before .before .before .before .loop .k) (now (c .before .before .before .before .before .before .before .before .before .before .before .before .before .before .before .before .before .before .before .before .before .before .before .before .before .before .before .before .before .before .before .before .before .before .before .before .before .before .before .before .args .chunk)), c .before .before .before .before .before .before .before .before .before .before .before .before .before .before .before .before .before .before .before .before .before .before .before .before .before .before .before .before .before .loop-test .taken) in fits-of-lt sum)
-    (λ c. omega (arith, c .before .before .before .before .before .before .before .before .before .before .before .before .before .before .before .before .before .before .before .one-line .ensures .0 .2, c .before .before .before .before .before .before .before .before .before .before .before .before .before .before .before .before .before .before .before .one-line .ensures .0 .3, rest-length (c .before .before .before .before .before .before .before .before .before .before .before .before .before .before .before .before .before .before .before .before .before .before .before .before .before .before .before .before .before .before .loop .k) (now (c .before .before .before .before .before .before .before .before .before .before .before .before .before .before .before .before .before .before .before .before .before .before .before .before .before .before .before .before .before .before .before .before .before .before .before .before .before .before .before .before .args .chunk)), c .before .before .before .before .before .before .before .before .before .before .before .before .before .before .before .before .before .before .before .before .before .before .before .before .before .before .before .before .before .loop-test .taken))
-    (λ c. let v = c .before .before .before .before .before .before .before .before .before .before .before .before .before .before .before .before .before .before .before .before .before .before .before .before .before .before .before .before .before .before .loop .inv in (omega (arith, c .before .before .before .before .before .before .before .before .before .before .before .before .before .before .before .before .before .before .before .one-line .ensures .0 .2, c .before .before .before .before .before .before .before .before .before .before .before .before .before .before .before .before .before .before .before .one-line .ensures .0 .3, rest-length (c .before .before .before .before .before .before .before .before .before .before .before .before .before .before .before .before .before .before .before .before .before .before .before .before .before .before .before .before .before .before .loop .k) (now (c .before .before .before .before .before .before .before .before .before .before .before .before .before .before .before .before .before .before .before .before .before .before .before .before .before .before .before .before .before .before .before .before .before .before .before .before .before .before .before .before .args .chunk)), c .before .before .before .before .before .before .before .before .before .before .before .before .before .before .before .before .before .before .before .before .before .before .before .before .before .before .before .before .before .loop-test .taken), c .before .before .before .before .before .before .before .before .before .before .before .before .before .before .before .before .before .before .before .one-line .ensures .0 .0, omega (arith, c .before .before .before .before .before .before .before .before .before .before .before .before .before .before .before .before .before .before .before .one-line .ensures .0 .1, v .2, c .before .before .before .before .before .before .before .before .before .before .before .before .before .before .before .before .before .before .before .one-line .ensures .0 .2, c .before .before .before .before .before .before .before .before .before .before .before .before .before .before .before .before .before .before .before .one-line .ensures .0 .3, rest-length (c .before .before .before .before .before .before .before .before .before .before .before .before .before .before .before .before .before .before .before .before .before .before .before .before .before .before .before .before .before .before .loop .k) (now (c .before .before .before .before .before .before .before .before .before .before .before .before .before .before .before .before .before .before .before .before .before .before .before .before .before .before .before .before .before .before .before .before .before .before .before .before .before .before .before .before .args .chunk)), c .before .before .before .before .before .before .before .before .before .before .before .before .before .before .before .before .before .before .before .before .before .before .before .before .before .before .before .before .before .loop-test .taken), (c .before .before .before .before .before .before .before .before .before .before .before .before .before .before .before .before .before .before .before .one-line .kept .1 .1 .1 .0 ∙ v .3 .0, c .before .before .before .before .before .before .before .before .before .before .before .before .before .before .before .before .before .before .before .one-line .kept .1 .1 .1 .1 .0 ∙ v .3 .1, c .before .before .before .before .before .before .before .before .before .before .before .before .before .before .before .before .before .before .before .one-line .kept .1 .1 .1 .1 .1 .0 ∙ v .3 .2, c .before .before .before .before .before .before .before .before .before .before .before .before .before .before .before .before .before .before .before .one-line .kept .1 .1 .1 .1 .1 .1 .0 ∙ v .3 .3, c .before .before .before .before .before .before .before .before .before .before .before .before .before .before .before .before .before .before .before .one-line .kept .1 .1 .1 .1 .1 .1 .1 .0 ∙ v .3 .4, c .before .before .before .before .before .before .before .before .before .before .before .before .before .before .before .before .before .before .before .one-line .kept .1 .1 .1 .1 .1 .1 .1 .1 .0 ∙ v .3 .5, c .before .before .before .before .before .before .before .before .before .before .before .before .before .before .before .before .before .before .before .one-line .kept .1 .1 .1 .1 .1 .1 .1 .1 .1 .0 ∙ v .3 .6, c .before .before .before .before .before .before .before .before .before .before .before .before .before .before .before .before .before .before .before .one-line .kept .1 .1 .1 .1 .1 .1 .1 .1 .1 .1 .0 ∙ v .3 .7), λ x a. fed-more x _ _ (now (c .before .before .before .before .before .before .before .before .before .before .before .before .before .before .before .before .before .before .before .before .before .before .before .before .before .before .before .before .before .before .before .before .before .before .before .before .before .before .before .before .args .chunk)) (c .before .before .before .before .before .before .before .before .before .before .before .before .before .before .before .before .before .before .before .before .before .before .before .before .before .before .before .before .before .before .loop .k) (c .before .before .before .before .before .before .before .before .before .before .before .before .before .before .before .before .before .before .before .one-line .result .eaten) (c .before .before .before .before .before .before .before .before .before .before .before .before .before .before .before .before .before .before .before .one-line .ensures .1 _ (v .4 x a))))
+    (λ c. done (c .before) .one-line .kept .1 .1 .1 .0 ∙ turn (done (c .before)) .before .loop .inv .3 .0)
+    (λ c. done (c .before) .one-line .kept .1 .1 .1 .1 .0 ∙ turn (done (c .before)) .before .loop .inv .3 .1)
+    (λ c. done (c .before) .one-line .kept .1 .1 .1 .1 .1 .0 ∙ turn (done (c .before)) .before .loop .inv .3 .2)
+    (λ c. done (c .before) .one-line .kept .1 .1 .1 .1 .1 .1 .0 ∙ turn (done (c .before)) .before .loop .inv .3 .3)
+    (λ c. done (c .before) .one-line .kept .1 .1 .1 .1 .1 .1 .1 .0 ∙ turn (done (c .before)) .before .loop .inv .3 .4)
+    (λ c. done (c .before) .one-line .kept .1 .1 .1 .1 .1 .1 .1 .1 .0 ∙ turn (done (c .before)) .before .loop .inv .3 .5)
+    (λ c. done (c .before) .one-line .kept .1 .1 .1 .1 .1 .1 .1 .1 .1 .0 ∙ turn (done (c .before)) .before .loop .inv .3 .6)
+    (λ c. done (c .before) .one-line .kept .1 .1 .1 .1 .1 .1 .1 .1 .1 .1 .0 ∙ turn (done (c .before)) .before .loop .inv .3 .7)
+    (λ c.
+    let part = done (c .before) in
+    let seen = part .one-line .ensures .0 in
+    let v = turn part .before .loop .inv in
+    ((seen .0, omega (arith, seen .1, v .2, turn part .loop-test .taken)), λ x a g. clashes g (not-true _ (c .if1 .taken))))
+    (λ c.
+    let part = done (c .before) in
+    let seen = part .one-line .ensures .0 in
+    let sum : turn part .before .loop .k + part .one-line .result .eaten < 18446744073709551616 = omega (arith, start (turn part) .pre .1 .2, seen .2, seen .3, rest-length (turn part .before .loop .k) (now (start (turn part) .args .chunk)), turn part .loop-test .taken) in
+    fits-of-lt sum)
+    (λ c.
+    let part = done (c .before) in
+    let seen = part .one-line .ensures .0 in
+    omega (arith, seen .2, seen .3, rest-length (turn part .before .loop .k) (now (start (turn part) .args .chunk)), turn part .loop-test .taken))
+    (λ c.
+    let part = done (c .before) in
+    let kept = part .one-line .kept .1 .1 .1 in
+    let seen = part .one-line .ensures .0 in
+    let v = turn part .before .loop .inv in
+    (omega (arith, seen .2, seen .3, rest-length (turn part .before .loop .k) (now (start (turn part) .args .chunk)), turn part .loop-test .taken), seen .0, omega (arith, seen .1, v .2, seen .2, seen .3, rest-length (turn part .before .loop .k) (now (start (turn part) .args .chunk)), turn part .loop-test .taken), (kept .0 ∙ v .3 .0, kept .1 .0 ∙ v .3 .1, kept .1 .1 .0 ∙ v .3 .2, kept .1 .1 .1 .0 ∙ v .3 .3, kept .1 .1 .1 .1 .0 ∙ v .3 .4, kept .1 .1 .1 .1 .1 .0 ∙ v .3 .5, kept .1 .1 .1 .1 .1 .1 .0 ∙ v .3 .6, kept .1 .1 .1 .1 .1 .1 .1 .0 ∙ v .3 .7), λ x a. fed-more x _ _ (now (start (turn part) .args .chunk)) (turn part .before .loop .k) (part .one-line .result .eaten) (part .one-line .ensures .1 _ (v .4 x a))))
     (λ c. c .before .loop .inv .3 .0)
     (λ c. c .before .loop .inv .3 .1)
     (λ c. c .before .loop .inv .3 .2)
