@@ -1,18 +1,17 @@
--- Each ACE is sought among the later ones for one of its identifier; the pairs of those that are left decide.
-use Prim.Native.Nat.{_+_, _-_}
-use mathlib.Core.Path.{ap, sym}
-use mathlib.Core.Bool.{not}
+-- Each ACE is held to the later ones for one of its identifier.
+use Prim.Native.Nat.{_-_}
 use native.Mathlib.Omega.{arith}
 use borrow.Author.Needs.{needs}
 use Rattle.lists.proofs.Walk.{length-mapped}
-use Rattle.lists.proofs.Checks.{Seeking, seek-found, seek-more, seek-end, Pairing, pair-none, pair-seek, pair-found, pair-more, pair-end}
+use Rattle.lists.proofs.Checks.{Pairing}
 use Rattle.paper.specs.Standing.{sameAce}
 use Rattle.standing.proofs.Entries.{past}
+use Rattle.standing.proofs.Pairs.{Holding, pairing}
 use Rattle.standing.proofs.aces.aces_once.Statement.{statement}
 use Rattle.standing.proofs.aces.aces_once.Tie as tie
 
 abbrev Inner : tie.InvT-loop2
-Inner given n items i a next j₀ j = Seeking (sameAce a) items 32 given n (i + 1) j
+Inner given n items i a next j₀ j = Holding sameAce items 32 given n past i j
 
 abbrev μ-inner : tie.MeasureT-loop2
 μ-inner given n items i a next j₀ j = n - j
@@ -32,26 +31,18 @@ aces-once-spec =
     Outer
     μ-outer
     (λ c κs. search needs)
-    (λ c. pair-none _ (search (length-mapped, needs)) (search needs))
+    (λ c. search (pairing, length-mapped, needs))
     (λ c. omega arith)
     (λ c. omega arith)
     (λ c. omega arith)
-    (λ c. let a = c .before in pair-seek (a .before .loop .inv) past (a .loop-test .taken))
+    (λ c. search (pairing, needs))
     (λ c. omega arith)
     (λ c. omega arith)
     (λ c κs. search needs)
-    (λ c.
-    let b = c .before .before .before in
-    let a = b .before .before .before in
-    let found = seek-found (b .before .loop2 .inv) past (b .loop2-test .taken) (c .before .same-aces .ensures) (c .if1 .taken) in
-    ap not (sym (pair-found (a .before .loop .inv) past (a .loop-test .taken) found)))
+    (λ c. search (pairing, needs))
     (λ c. omega arith)
     (λ c. omega arith)
-    (λ c.
-    let b = c .before .before .before in
-    seek-more (b .before .loop2 .inv) past (b .loop2-test .taken) (c .before .same-aces .ensures) (c .if1 .left))
+    (λ c. search (pairing, needs))
     (λ c. omega arith)
-    (λ c.
-    let a = c .before .before .before in
-    pair-more (a .before .loop .inv) past (a .loop-test .taken) (seek-end (c .before .loop2 .inv) (c .loop2-test .left)))
-    (λ c. ap not (sym (pair-end (c .before .loop .inv) (c .loop-test .left)))))
+    (λ c. search (pairing, needs))
+    (λ c. search (pairing, needs)))

@@ -1,19 +1,18 @@
--- Each token is sought among the later ones for one of its number; the pairs of those that are left decide.
-use Prim.Native.Nat.{_+_, _-_}
-use mathlib.Core.Path.{refl, ap, sym}
-use mathlib.Core.Bool.{not}
+-- Each token is held to the later ones for one of its number.
+use Prim.Native.Nat.{_-_}
 use native.Mathlib.Omega.{arith}
 use borrow.Author.Needs.{needs}
 use borrow.Author.Tests.{eq-eqb, ne-eqb}
 use Rattle.lists.proofs.Walk.{length-mapped}
-use Rattle.lists.proofs.Checks.{Seeking, seek-found, seek-more, seek-end, Pairing, pair-none, pair-seek, pair-found, pair-more, pair-end}
+use Rattle.lists.proofs.Checks.{Pairing}
 use Rattle.paper.specs.Tables.{noToken}
 use Rattle.paper.specs.Standing.{sameToken}
+use Rattle.standing.proofs.Pairs.{Holding, pairing}
 use Rattle.standing.proofs.tokens.tokens_once.Statement.{statement}
 use Rattle.standing.proofs.tokens.tokens_once.Tie as tie
 
 abbrev Inner : tie.InvT-loop2
-Inner given n items i x next j₀ j = Seeking (sameToken x) items 32 given n (i + 1) j
+Inner given n items i x next j₀ j = Holding sameToken items 32 given n noToken i j
 
 abbrev μ-inner : tie.MeasureT-loop2
 μ-inner given n items i x next j₀ j = n - j
@@ -33,25 +32,17 @@ tokens-once-spec =
     Outer
     μ-outer
     (λ c κs. search needs)
-    (λ c. pair-none _ (search (length-mapped, needs)) (search needs))
+    (λ c. search (pairing, length-mapped, needs))
     (λ c. omega arith)
     (λ c. omega arith)
     (λ c. omega arith)
-    (λ c. let a = c .before in pair-seek (a .before .loop .inv) noToken (a .loop-test .taken))
+    (λ c. search (pairing, needs))
     (λ c. omega arith)
     (λ c. omega arith)
-    (λ c.
-    let b = c .before .before .before .before in
-    let a = b .before .before .before in
-    let found = seek-found (b .before .loop2 .inv) noToken (b .loop2-test .taken) refl (eq-eqb _ _ (c .if1 .taken)) in
-    ap not (sym (pair-found (a .before .loop .inv) noToken (a .loop-test .taken) found)))
+    (λ c. search (pairing, eq-eqb, needs))
     (λ c. omega arith)
     (λ c. omega arith)
-    (λ c.
-    let b = c .before .before .before .before in
-    seek-more (b .before .loop2 .inv) noToken (b .loop2-test .taken) refl (ne-eqb _ _ (c .if1 .left)))
+    (λ c. search (pairing, ne-eqb _ _ (c .if1 .left), needs))
     (λ c. omega arith)
-    (λ c.
-    let a = c .before .before .before in
-    pair-more (a .before .loop .inv) noToken (a .loop-test .taken) (seek-end (c .before .loop2 .inv) (c .loop2-test .left)))
-    (λ c. ap not (sym (pair-end (c .before .loop .inv) (c .loop-test .left)))))
+    (λ c. search (pairing, needs))
+    (λ c. search (pairing, needs)))

@@ -1,18 +1,17 @@
--- Each default LUN is sought among the later ones for the same one; the pairs of those that are left decide.
-use Prim.Native.Nat.{_+_, _-_}
-use mathlib.Core.Path.{refl, ap, sym}
-use mathlib.Core.Bool.{not}
+-- Each default LUN is held to the later ones for the same one.
+use Prim.Native.Nat.{_-_}
 use native.Mathlib.Omega.{arith}
 use borrow.Author.Needs.{needs}
 use borrow.Author.Tests.{eq-eqb, ne-eqb}
 use Rattle.lists.proofs.Walk.{length-mapped}
-use Rattle.lists.proofs.Checks.{Seeking, seek-found, seek-more, seek-end, Pairing, pair-none, pair-seek, pair-found, pair-more, pair-end}
+use Rattle.lists.proofs.Checks.{Pairing}
 use lib.Dec.{eqb}
+use Rattle.standing.proofs.Pairs.{Holding, pairing}
 use Rattle.standing.proofs.units.defaults_once.Statement.{statement}
 use Rattle.standing.proofs.units.defaults_once.Tie as tie
 
 abbrev Inner : tie.InvT-loop2
-Inner given n luns i lun next j₀ j = Seeking (eqb lun) luns 32 given n (i + 1) j
+Inner given n luns i lun next j₀ j = Holding eqb luns 32 given n 0 i j
 
 abbrev μ-inner : tie.MeasureT-loop2
 μ-inner given n luns i lun next j₀ j = n - j
@@ -32,25 +31,17 @@ defaults-once-spec =
     Outer
     μ-outer
     (λ c κs. search needs)
-    (λ c. pair-none _ (search (length-mapped, needs)) (search needs))
+    (λ c. search (pairing, length-mapped, needs))
     (λ c. omega arith)
     (λ c. omega arith)
     (λ c. omega arith)
-    (λ c. pair-seek (c .before .loop .inv) 0 (c .loop-test .taken))
+    (λ c. search (pairing, needs))
     (λ c. omega arith)
     (λ c. omega arith)
-    (λ c.
-    let b = c .before in
-    let a = b .before .before in
-    let found = seek-found (b .before .loop2 .inv) 0 (b .loop2-test .taken) refl (eq-eqb _ _ (c .if1 .taken)) in
-    ap not (sym (pair-found (a .before .loop .inv) 0 (a .loop-test .taken) found)))
+    (λ c. search (pairing, eq-eqb, needs))
     (λ c. omega arith)
     (λ c. omega arith)
-    (λ c.
-    let b = c .before in
-    seek-more (b .before .loop2 .inv) 0 (b .loop2-test .taken) refl (ne-eqb _ _ (c .if1 .left)))
+    (λ c. search (pairing, ne-eqb _ _ (c .if1 .left), needs))
     (λ c. omega arith)
-    (λ c.
-    let a = c .before .before in
-    pair-more (a .before .loop .inv) 0 (a .loop-test .taken) (seek-end (c .before .loop2 .inv) (c .loop2-test .left)))
-    (λ c. ap not (sym (pair-end (c .before .loop .inv) (c .loop-test .left)))))
+    (λ c. search (pairing, needs))
+    (λ c. search (pairing, needs)))
