@@ -1,6 +1,6 @@
 -- What an entry holds: nothing in an empty list, and an AccessID in an enrolment of stage 1 or 2.
 use Prim.Native.Nat.{ℕ, zero, suc, _≤_, _<_}
-use mathlib.Core.Path.{_≡_, refl, sym, _∙_}
+use mathlib.Core.Path.{_≡_, refl, ap, sym, _∙_}
 use mathlib.Core.List.{List, [], _∷_}
 use mathlib.Core.Bool.{Bool, true, false, cond, _||_}
 use native.Mathlib.Omega.{arith}
@@ -26,6 +26,10 @@ use Rattle.standing.specs.Tests.{isEnrolled}
 -- what the logic takes past the end of an array of ACEs
 abbrev pub past : Ace
 past = record { kind = AccessId; extent = Listed; id = []; count = 0; luacds = [] }
+
+-- what the paper speaks of, and how the code counts it
+pub all-of : {A : Type 0} (p : A → Bool) {us vs : List A} {b : Bool} → us ≡ vs → b ≡ all p vs → b ≡ all p us
+all-of p e h = h ∙ sym (ap (all p) e)
 
 pub nothing-listed : (n : ℕ) (l : List Luacd) → length l ≡ 16 → holdsNothing (these (take n l)) ≡ eqb n 0
 nothing-listed zero l h = refl

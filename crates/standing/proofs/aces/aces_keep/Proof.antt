@@ -5,7 +5,6 @@ use borrow.Author.Needs.{needs}
 use Rattle.lists.proofs.Walk.{length-mapped}
 use Rattle.lists.proofs.Checks.{Each, each-none, each-stop, each-more, each-end}
 use Rattle.standing.specs.Tests.{aceTest}
-use Rattle.standing.proofs.Entries.{past}
 use Rattle.standing.proofs.aces.aces_keep.Statement.{statement}
 use Rattle.standing.proofs.aces.aces_keep.Tie as tie
 
@@ -22,16 +21,12 @@ aces-keep-spec =
     Inv
     μ
     (λ c κs. search needs)
-    (λ c. each-none _ (search (length-mapped, needs)) (search needs))
+    (λ c. search (each-none, length-mapped, needs))
     (λ c. omega arith)
     (λ c. omega arith)
     (λ c κs. search needs)
-    (λ c.
-    let a = c .before .before .before in
-    each-stop (a .before .loop .inv) past (a .loop-test .taken) (c .before .ace-keeps .ensures) (c .if1 .taken))
+    (λ c. search (each-stop, needs))
     (λ c. omega arith)
     (λ c. omega arith)
-    (λ c.
-    let a = c .before .before .before in
-    each-more (a .before .loop .inv) past (a .loop-test .taken) (c .before .ace-keeps .ensures) (c .if1 .left))
-    (λ c. each-end (c .before .loop .inv) (c .loop-test .left)))
+    (λ c. search (each-more, needs))
+    (λ c. search (each-end, needs)))

@@ -4,8 +4,8 @@ use native.Mathlib.Omega.{arith}
 use borrow.Author.Needs.{needs}
 use Rattle.lists.proofs.Walk.{length-mapped}
 use Rattle.lists.proofs.Checks.{Each, each-none, each-stop, each-more, each-end}
-use Rattle.paper.specs.Tables.{noLuacd}
 use Rattle.standing.specs.Tests.{luacdTest}
+use Rattle.standing.proofs.Entries.{all-of}
 use Rattle.standing.proofs.luacds.luacds_keep.Statement.{statement}
 use Rattle.standing.proofs.luacds.luacds_keep.Tie as tie
 
@@ -23,16 +23,12 @@ luacds-keep-spec =
     μ
     (λ c κs. search needs)
     (λ c κs. search needs)
-    (λ c. each-none _ (search (length-mapped, needs)) (search needs))
+    (λ c. search (each-none, length-mapped, needs))
     (λ c. omega arith)
     (λ c. omega arith)
     (λ c κs. search needs)
-    (λ c.
-    let a = c .before .before .before in
-    rw (a .before .before .before .before .listed .ensures) (each-stop (a .before .loop .inv) noLuacd (a .loop-test .taken) (c .before .luacd-keeps .ensures) (c .if1 .taken)))
+    (λ c. search (all-of, each-stop, needs))
     (λ c. omega arith)
     (λ c. omega arith)
-    (λ c.
-    let a = c .before .before .before in
-    each-more (a .before .loop .inv) noLuacd (a .loop-test .taken) (c .before .luacd-keeps .ensures) (c .if1 .left))
-    (λ c. rw (c .before .before .before .before .listed .ensures) (each-end (c .before .loop .inv) (c .loop-test .left))))
+    (λ c. search (each-more, needs))
+    (λ c. search (all-of, each-end, needs)))

@@ -21,16 +21,12 @@ defaults-formed-spec =
     Inv
     μ
     (λ c κs. search needs)
-    (λ c. each-none _ (search (length-mapped, needs)) (search needs))
+    (λ c. search (each-none, length-mapped, needs))
     (λ c. omega arith)
     (λ c. omega arith)
     (λ c κs. search needs)
-    (λ c.
-    let a = c .before .before in
-    each-stop (a .before .loop .inv) 0 (a .loop-test .taken) (c .before .lun-formed .ensures) (c .if1 .taken))
+    (λ c. search (each-stop, needs))
     (λ c. omega arith)
     (λ c. omega arith)
-    (λ c.
-    let a = c .before .before in
-    each-more (a .before .loop .inv) 0 (a .loop-test .taken) (c .before .lun-formed .ensures) (c .if1 .left))
-    (λ c. each-end (c .before .loop .inv) (c .loop-test .left)))
+    (λ c. search (each-more, needs))
+    (λ c. search (each-end, needs)))
