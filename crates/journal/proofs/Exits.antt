@@ -2,7 +2,7 @@
 use Prim.Native.Nat.{ℕ, _-_, _<_, _≤_}
 use mathlib.Core.List.{List}
 use mathlib.Core.Bool.{Bool, true, false, not}
-use mathlib.Core.Path.{_≡_, sym, ap, ap₂, subst, _∙_}
+use mathlib.Core.Path.{_≡_, refl, sym, ap, ap₂, subst, _∙_}
 use native.Mathlib.Omega.{arith}
 use borrow.Author.Tests.{not-true, not-false, leb-true, eq-eqb, ne-eqb, lt-ltb, le-ltb}
 use lib.ListN.{length, getD, take}
@@ -10,8 +10,9 @@ use lib.Dec.{leb}
 use Rattle.lists.proofs.Tests.{and-true}
 use Rattle.journal.specs.Words.{nextWord, restOf, hasWord}
 use Rattle.journal.specs.Kinds.{isBytes, bytesOf, isList, isNumber, isBuffer, decimalOf, isDigits, digitsOf}
-use Rattle.journal.specs.Statements.{setup, command, link, route, reach, Line, skipped, said, tooLong, expected, readSetup, readLent, readList, readCommand, readLink, readRoute, readReach, isWord, setupWord, commandWord, linkWord, routeWord, reachWord, readStatement, withoutCr, readKept, readLine}
+use Rattle.journal.specs.Statements.{Said, setup, command, route, Line, skipped, said, tooLong, expected, needs, ending, readSetup, readLent, readList, readCommand, readLink, readRoute, readReach, isWord, setupWord, commandWord, linkWord, routeWord, reachWord, readStatement, withoutCr, readKept, readLine}
 use Rattle.journal.specs.Parsed.{lineOf, Lists, Reads}
+use Rattle.journal.specs.declared.statement.Kind.{Kind}
 use Rattle.journal.specs.declared.statement.Kind.the-variants.{Keyword, Bytes, ByteList, Number, Buffer, Digits, End}
 use Rattle.journal.specs.declared.statement.Parsed.{Parsed}
 use Rattle.journal.specs.declared.statement.Parsed.the-variants.{Setup}
@@ -47,31 +48,13 @@ module _ (w : List ℕ) {fits : Bool} (e : fits ≡ isNumber w) where
   buffer-is f h = rw (sym e ∙ not-false fits h) (ap (λ k. leb k 65536) f)
 
 -- ---- the statements without byte strings
+-- one word, that is a number: what the code made of it is what the definition does
+pub one-read : (p : List ℕ → Bool) (kind : Kind) (say : ℕ → Said) (s : List ℕ) {fits : Bool} {n : ℕ} {w : List ℕ} → w ≡ nextWord s → (fits ≡ p w) × (fits ≡ true → n ≡ decimalOf w) → needs fits 2 kind (ending 3 (restOf s) (said (say n))) ≡ needs (p (nextWord s)) 2 kind (ending 3 (restOf s) (said (say (decimalOf (nextWord s)))))
+one-read p kind say s {fits = true} e f =
+    rw (decides p e (f .0) refl) (ap (λ m. ending 3 (restOf s) (said (say m))) (f .1 refl ∙ ap decimalOf e))
+one-read p kind say s {fits = false} e f = rw (decides p e (f .0) refl)
+
 module _ (s : List ℕ) where
-  pub link-number : isNumber (nextWord s) ≡ false → expected 2 Number ≡ readLink s
-  unfolding readLink
-  link-number h = rw h
-
-  pub link-end : isNumber (nextWord s) ≡ true → ended (restOf s) ≡ false → expected 3 End ≡ readLink s
-  unfolding readLink
-  link-end h k = rw (h, k)
-
-  pub link-said : {i : ℕ} → isNumber (nextWord s) ≡ true → ended (restOf s) ≡ true → i ≡ decimalOf (nextWord s) → said (link i) ≡ readLink s
-  unfolding readLink
-  link-said h k e = rw (h, k) (ap (λ n. said (link n)) e)
-
-  pub reach-buffer : isBuffer (nextWord s) ≡ false → expected 2 Buffer ≡ readReach s
-  unfolding readReach
-  reach-buffer h = rw h
-
-  pub reach-end : isBuffer (nextWord s) ≡ true → ended (restOf s) ≡ false → expected 3 End ≡ readReach s
-  unfolding readReach
-  reach-end h k = rw (h, k)
-
-  pub reach-said : {n : ℕ} → isBuffer (nextWord s) ≡ true → ended (restOf s) ≡ true → n ≡ decimalOf (nextWord s) → said (reach n) ≡ readReach s
-  unfolding readReach
-  reach-said h k e = rw (h, k) (ap (λ m. said (reach m)) e)
-
   pub route-number : isNumber (nextWord s) ≡ false → expected 2 Number ≡ readRoute s
   unfolding readRoute
   route-number h = rw h

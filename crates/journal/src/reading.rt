@@ -5,8 +5,8 @@ ghost use Prim.Native.Nat.{_≤_};
 ghost use lib.ListN.{length};
 ghost use Rattle.journal.specs.Words.{nextWord, restOf, hasWord};
 ghost use Rattle.journal.specs.Kinds.{isList, isBuffer, decimalOf};
-ghost use Rattle.journal.specs.Statements.{isWord, readSetup, readLent, readList, readCommand, readLink, readRoute, readReach, readStatement, withoutCr, readKept, readLine};
-ghost use Rattle.journal.specs.Parsed.{Says, Lists, Reads};
+ghost use Rattle.journal.specs.Statements.{needs, ending, isWord, readSetup, readLent, readList, readCommand, readLink, readRoute, readReach, readStatement, withoutCr, readKept, readLine};
+ghost use Rattle.journal.specs.Parsed.{lineOf, Says, Lists, Reads};
 use crate::kinds;
 use crate::kinds::Numbered;
 use crate::statement::Kind;
@@ -74,17 +74,24 @@ fn buffer(w: &[u8]) -> Numbered
     }
 }
 
-fn read_link(s: &[u8]) -> Parsed
-    ensures { λ r. ⌜ Says r (λ a b. readLink (now (s .entry))) ⌝ }
+// A statement of one word behind the first: it is of its kind or at fault, and the line ends.
+fn one_word(fits: bool, kind: Kind, s: &[u8], stated: Parsed) -> Parsed
+    ensures { λ r. ⌜ Says r (λ a b. needs fits 2 kind (ending 3 (restOf (now (s .entry))) (lineOf stated a b))) ⌝ }
 {
-    let i = kinds::number(word_of(s));
-    if !i.fits {
-        return Parsed::Expected(2, Kind::Number);
+    if !fits {
+        return Parsed::Expected(2, kind);
     }
     if !ends(rest_of(s)) {
         return Parsed::Expected(3, Kind::End);
     }
-    Parsed::Link(i.value)
+    stated
+}
+
+fn read_link(s: &[u8]) -> Parsed
+    ensures { λ r. ⌜ Says r (λ a b. readLink (now (s .entry))) ⌝ }
+{
+    let i = kinds::number(word_of(s));
+    one_word(i.fits, Kind::Number, s, Parsed::Link(i.value))
 }
 
 fn read_route(s: &[u8]) -> Parsed
@@ -109,13 +116,7 @@ fn read_reach(s: &[u8]) -> Parsed
     ensures { λ r. ⌜ Says r (λ a b. readReach (now (s .entry))) ⌝ }
 {
     let n = buffer(word_of(s));
-    if !n.fits {
-        return Parsed::Expected(2, Kind::Buffer);
-    }
-    if !ends(rest_of(s)) {
-        return Parsed::Expected(3, Kind::End);
-    }
-    Parsed::Reach(n.value as usize)
+    one_word(n.fits, Kind::Buffer, s, Parsed::Reach(n.value as usize))
 }
 
 // RANDOM and BUFFER, behind the list.
