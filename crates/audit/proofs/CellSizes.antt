@@ -1,15 +1,18 @@
--- What the cells of the table take, and the spaces between them.
+-- What the cells of the table take, the spaces between them, and a line of it.
 use Prim.Native.Nat.{ℕ, _+_, _-_, _≤_}
 use mathlib.Core.List.{List}
 use mathlib.Core.Bool.{Bool, not, _&&_}
 use native.Mathlib.Omega.{arith}
 use lib.ListN.{length, getD, length-append, length-replicate}
 use lib.Dec.{eqb, ltb}
+use Rattle.lists.specs.Lists.{below}
 use Rattle.lists.specs.Bytes.{be}
 use Rattle.lists.proofs.Tests.{both}
+use Rattle.lists.proofs.Parts.{length-count}
+use Rattle.lists.proofs.Sums.{gather-most}
 use Rattle.journal.specs.Texts.{decimalText}
 use Rattle.journal.proofs.Told.{decimal-most}
-use Rattle.audit.specs.Cells.{groundText, whatText, byText, senderText, deedText, hasEnded, fromLine, toLine, endedText, cellText, headText, lineCell, fillText}
+use Rattle.audit.specs.Cells.{groundText, whatText, byText, senderText, deedText, hasEnded, fromLine, toLine, endedText, cellText, headText, lineCell, fillText, filledCell, rowText}
 use Rattle.audit.specs.declared.cells.Asked.{Asked}
 
 abbrev Most : ℕ → List ℕ → Type 0
@@ -84,3 +87,11 @@ pub fill-most : (tsv : Bool) (width size : ℕ) → width ≤ 255 → length (fi
 unfolding fillText
 fill-most tsv width size h =
     both (Most 257) tsv (omega arith) (omega (arith, length-replicate {A = ℕ} (width + 2 - size) 0x20))
+
+-- ---- a line of the table: six cells filled up to columns of at most 255, and the last
+pub row-most : (a : Asked) (tsv : Bool) (widths e : List ℕ) → ((k : ℕ) → getD widths k 0 ≤ 255) → length (rowText a tsv widths e) ≤ 2061
+unfolding rowText
+row-most a tsv widths e h =
+    let cells =
+    gather-most (filledCell a tsv widths e) 331 (below 6) (λ k m. let text = lineCell a e k in let width = getD widths k 0 in omega (arith, length-append text (fillText tsv width (length text)), line-cell-most a e k, fill-most tsv width (length text) (h k))) in
+    simp length-append (omega (arith, cells, length-count 0 6, line-cell-most a e 6))

@@ -16,7 +16,7 @@ use Rattle.lists.proofs.Tables.{Grown, grown-none, grown-step, grown-skip, grow
 use Rattle.journal.specs.Texts.{decimalText, byteText}
 use Rattle.journal.proofs.Told.{either-most, decimal-most}
 use Rattle.audit.specs.declared.cells.Asked.{Asked}
-use Rattle.audit.specs.Sentence.{isOf, could, belongs, andText, commaText, noInitiator, oneInitiator, manyInitiators, defaultText, absentText, endsAtText, closeText, wasText, wereText, before, joined, named, openers, couldPart, pendingText, waitPart, placeText, pastText, unitPart, linesPart}
+use Rattle.audit.specs.Sentence.{isOf, could, belongs, andText, commaText, noInitiator, oneInitiator, manyInitiators, defaultText, absentText, endsAtText, closeText, wasText, wereText, before, joined, named, openers, couldPart, pendingText, waitPart, answerText, placeText, pastText, unitPart, linesPart, firstText}
 
 -- ---- who is named
 pub belongs-could : (a : Asked) (es : List (List ℕ)) (waits : Bool) (i : ℕ) → waits ≡ false → belongs a es waits i ≡ could a es i
@@ -27,7 +27,11 @@ pub belongs-waits : (a : Asked) (es : List (List ℕ)) (waits : Bool) (i : ℕ) 
 unfolding belongs
 belongs-waits a es waits i e = rw e
 
--- ---- the numbers below a size that pass a test, stored one after the other: those up to i are
+-- ---- the numbers below a size that pass a test: no more than the size
+keep-few : (p : ℕ → Bool) (size : ℕ) → length (keep p (below size)) ≤ size
+keep-few p size = omega (arith, length-keep p (below size), length-count 0 size)
+
+-- stored one after the other: those up to i are
 pub record Chosen (p : ℕ → Bool) (size i : ℕ) (items : List ℕ) (kept : ℕ) : Type 0 where
   pub passed : i ≤ size
   pub behind : kept ≤ i
@@ -38,7 +42,7 @@ chosen-none p size =
     record {
       passed = omega arith;
       behind = omega arith;
-      grown = rw (sub-zero size) (grown-none 0 size (keep p (below size)) (omega (arith, length-keep p (below size), length-count 0 size)));
+      grown = rw (sub-zero size) (grown-none 0 size (keep p (below size)) (keep-few p size));
     }
 
 module _ {p : ℕ → Bool} {size i : ℕ} {items : List ℕ} {kept : ℕ} (s : Chosen p size i items kept) where
@@ -64,8 +68,7 @@ module _ {p : ℕ → Bool} {size i : ℕ} {items : List ℕ} {kept : ℕ} (s : 
   unfolding keep
   chosen-end h =
       let b = grown-end (s .grown) (rw (between-nil i size h)) in
-      let few : length (keep p (below size)) ≤ size = omega (arith, length-keep p (below size), length-count 0 size) in
-      (rw (b .items-are) (length-pad 0 size (keep p (below size)) few), omega (arith, s .behind, s .passed), built-take b)
+      (rw (b .items-are) (length-pad 0 size (keep p (below size)) (keep-few p size)), omega (arith, s .behind, s .passed), built-take b)
 
 -- ---- a name, and what comes before it
 abbrev pub nameText : List ℕ → ℕ → List ℕ
@@ -102,22 +105,27 @@ unfolding openers
 openers-most is h =
     either-most (eqb (length is) 0) 411 noInitiator (named is) (omega arith) (named-most is h)
 
-pub could-most : (unit n : ℕ) (is : List ℕ) → n ≤ 16 → length (couldPart unit (take n is)) ≤ 464
+pub could-most : (unit : ℕ) (is : List ℕ) → length is ≤ 16 → length (couldPart unit is) ≤ 464
 unfolding couldPart
-could-most unit n is h =
-    simp length-append (omega (arith, openers-most (take n is) (taken-most n is h), decimal-most unit))
+could-most unit is h = simp length-append (omega (arith, openers-most is h, decimal-most unit))
 
 pending-most : (n : ℕ) → length (pendingText n) ≤ 30
 unfolding pendingText
 pending-most n = either-most (eqb n 1) 30 wasText wereText (omega arith) (omega arith)
 
-pub wait-most : (n : ℕ) (is : List ℕ) → n ≤ 16 → length (waitPart (take n is)) ≤ 442
+pub wait-most : (is : List ℕ) → length is ≤ 16 → length (waitPart is) ≤ 442
 unfolding waitPart
-wait-most n is h =
-    let some = take n is in
-    let tail = pendingText (length some) in
-    either-most (eqb (length some) 0) 442 [] (0x20 ∷ (named some ++ tail)) (omega arith)
-    (omega (arith, length-append (named some) tail, named-most some (taken-most n is h), pending-most (length some)))
+wait-most is h =
+    let tail = pendingText (length is) in
+    either-most (eqb (length is) 0) 442 [] (0x20 ∷ (named is ++ tail)) (omega arith)
+    (omega (arith, length-append (named is) tail, named-most is h, pending-most (length is)))
+
+pub answer-most : (a : Asked) (unit : ℕ) (es : List (List ℕ)) → length (answerText a unit es) ≤ 907
+unfolding answerText
+answer-most a unit es =
+    let could = belongs a es false in
+    let waits = belongs a es true in
+    simp length-append (omega (arith, could-most unit (keep could (below 16)) (keep-few could 16), wait-most (keep waits (below 16)) (keep-few waits 16)))
 
 pub place-most : (there : Bool) (nn : ℕ) → length (placeText there nn) ≤ 29
 unfolding placeText
@@ -138,6 +146,11 @@ pub lines-most : (a : Asked) → length (linesPart a) ≤ 109
 unfolding linesPart
 lines-most a =
     simp length-append (omega (arith, decimal-most (a .from), decimal-most (a .to), past-most a))
+
+pub first-most : (a : Asked) (unit : ℕ) (there : Bool) (nn : ℕ) → length (firstText a unit there nn) ≤ 164
+unfolding firstText
+first-most a unit there nn =
+    simp length-append (omega (arith, unit-most unit there nn, lines-most a))
 
 -- ---- the place of the unit
 pub place-there : (there : Bool) (nn : ℕ) → there ≡ true → placeText there nn ≡ defaultText ++ byteText nn

@@ -1,6 +1,7 @@
 // The grounds of a unit, followed for an audit.
 ghost use mathlib.Core.Path.{_≡_};
 ghost use mathlib.Core.Bool.{true, false};
+ghost use Prim.Native.Nat.{_≤_};
 ghost use lib.ListN.{length, take};
 ghost use Rattle.audit.specs.Ledger.{deedBytes, forgotten, standsAfter, rowsAfter};
 ghost use Rattle.oberkosz.specs.Buffers.{Lent, Within};
@@ -34,6 +35,7 @@ fn as_before(before: Grounds) -> Followed
 
 // "If there are more, it .. says so on standard error with the line at which it was full"
 fn full(number: u64, before: Grounds, text: &mut [u8]) -> Followed
+    requires { ⌜ 140000 ≤ length (now text) ⌝ }
     ensures { λ r. ⌜ (r .grounds ≡ before) × (r .going ≡ false) ⌝ }
 {
     let limit = text.len();
@@ -61,7 +63,7 @@ fn tracked(
     next: &mut [u8],
     ended: &mut [u8],
 ) -> Followed
-    requires { ⌜ (length (now reply) ≡ 65536) × (length (now standing) ≡ 65536) × (length (now next) ≡ 65536) ⌝ }
+    requires { ⌜ (length (now reply) ≡ 65536) × (length (now standing) ≡ 65536) × (length (now next) ≡ 65536) × (140000 ≤ length (now text)) ⌝ }
     requires { ⌜ Within before ⌝ }
     ensures within { λ r. ⌜ Within (r .grounds) ⌝ }
     ensures stands { λ r. ⌜ (r .going ≡ true → take (r .grounds .standing) (now (standing .exit)) ≡ standsAfter (task .unit) (forgotten (deed .what) (take (before .standing) (now (standing .entry)))) (rowsAfter state) (deedBytes (deed .what) (deed .by) (deed .line))) ⌝ }

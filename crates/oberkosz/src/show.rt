@@ -22,13 +22,17 @@ fn is_initiators(a: Asked, i: u8, e: &[u8]) -> bool {
     wire::byte(e, 0) == i
 }
 
-fn show_row(a: Asked, tsv: bool, widths: &[u8], e: &[u8], text: &mut [u8]) -> bool {
+fn show_row(a: Asked, tsv: bool, widths: &[u8], e: &[u8], text: &mut [u8]) -> bool
+    requires { ⌜ 140000 ≤ length (now text) ⌝ }
+{
     let size = table::put_row(text, a, tsv, widths, e);
     step::write_text(STDOUT_FILENO, text, size)
 }
 
 // The line of a ground, if it is the initiator's and shown; whether it was written.
-fn show_ground(i: u8, a: Asked, tsv: bool, widths: &[u8], e: &[u8], text: &mut [u8]) -> bool {
+fn show_ground(i: u8, a: Asked, tsv: bool, widths: &[u8], e: &[u8], text: &mut [u8]) -> bool
+    requires { ⌜ 140000 ≤ length (now text) ⌝ }
+{
     if !is_initiators(a, i, e) {
         return true;
     }
@@ -45,7 +49,7 @@ fn show_of(
     size: usize,
     text: &mut [u8],
 ) -> bool
-    requires { ⌜ 1 ≤ size ⌝ }
+    requires { ⌜ (1 ≤ size) × (140000 ≤ length (now text)) ⌝ }
 {
     let mut rest = runs;
     while size <= rest.len() {
@@ -65,7 +69,9 @@ fn show_all(
     ended: &[u8],
     standing: &[u8],
     text: &mut [u8],
-) -> bool {
+) -> bool
+    requires { ⌜ 140000 ≤ length (now text) ⌝ }
+{
     let mut i = 0;
     while i < 16 {
         if !show_of(i, a, tsv, widths, ended, 24, text) {
@@ -80,7 +86,9 @@ fn show_all(
 }
 
 // The table, with its headings.
-fn show_table(a: Asked, tsv: bool, ended: &[u8], standing: &[u8], text: &mut [u8]) -> bool {
+fn show_table(a: Asked, tsv: bool, ended: &[u8], standing: &[u8], text: &mut [u8]) -> bool
+    requires { ⌜ 140000 ≤ length (now text) ⌝ }
+{
     let mut widths = [0u8; 6];
     table::put_widths(&mut widths, text, a, ended, standing);
     if !show_row(a, tsv, &widths, b"", text) {
@@ -90,7 +98,9 @@ fn show_table(a: Asked, tsv: bool, ended: &[u8], standing: &[u8], text: &mut [u8
 }
 
 // The unit, its default LUN if it is there, and the lines.
-fn show_first(a: Asked, unit: u8, c: Coordinator, text: &mut [u8]) -> bool {
+fn show_first(a: Asked, unit: u8, c: Coordinator, text: &mut [u8]) -> bool
+    requires { ⌜ 140000 ≤ length (now text) ⌝ }
+{
     let units = c.units;
     let luns = units.luns;
     let u = unit as usize;
@@ -115,7 +125,9 @@ fn show_audit(
     ended: &[u8],
     standing: &[u8],
     text: &mut [u8],
-) -> bool {
+) -> bool
+    requires { ⌜ 140000 ≤ length (now text) ⌝ }
+{
     if !show_first(a, unit, c, text) {
         return false;
     }
@@ -141,7 +153,7 @@ fn asked_of(task: Task, next: u64) -> Asked {
 
 // The audit of a unit, as a table with its answer or for spreadsheets.
 fn audit(task: Task, p: Place, standing: &[u8], ended: &[u8], text: &mut [u8]) -> bool
-    requires { ⌜ (length (now standing) ≡ 65536) × (length (now ended) ≡ 393216) × Sound p ⌝ }
+    requires { ⌜ (length (now standing) ≡ 65536) × (length (now ended) ≡ 393216) × Sound p × (140000 ≤ length (now text)) ⌝ }
 {
     let grounds = p.grounds;
     let n = grounds.standing;
@@ -155,14 +167,16 @@ fn audit(task: Task, p: Place, standing: &[u8], ended: &[u8], text: &mut [u8]) -
 }
 
 // The state in words.
-fn state(c: Coordinator, text: &mut [u8]) -> bool {
+fn state(c: Coordinator, text: &mut [u8]) -> bool
+    requires { ⌜ 140000 ≤ length (now text) ⌝ }
+{
     let size = telling::put_state(c, text);
     step::write_text(STDOUT_FILENO, text, size)
 }
 
 // What the task asks for of the journal; whether it was written.
 pub fn show(task: Task, p: Place, standing: &[u8], ended: &[u8], text: &mut [u8]) -> bool
-    requires { ⌜ (length (now standing) ≡ 65536) × (length (now ended) ≡ 393216) × Sound p ⌝ }
+    requires { ⌜ (length (now standing) ≡ 65536) × (length (now ended) ≡ 393216) × Sound p × (140000 ≤ length (now text)) ⌝ }
 {
     if !p.going {
         return false;

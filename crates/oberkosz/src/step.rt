@@ -57,10 +57,9 @@ pub fn write(fd: i32, text: &[u8]) -> bool {
 }
 
 // The first bytes of a text buffer.
-pub fn write_text(fd: i32, text: &[u8], size: usize) -> bool {
-    if text.len() < size {
-        return false;
-    }
+pub fn write_text(fd: i32, text: &[u8], size: usize) -> bool
+    requires { ⌜ size ≤ length (now text) ⌝ }
+{
     write(fd, &text[..size])
 }
 

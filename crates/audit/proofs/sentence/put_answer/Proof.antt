@@ -3,6 +3,7 @@ use mathlib.Core.Path.{sym}
 use native.Mathlib.Omega.{arith}
 use borrow.Author.Needs.{needs}
 use lib.Seq.{length-take-le}
+use lib.ListN.{take}
 use Rattle.wire.proofs.Writing.{then}
 use Rattle.audit.specs.Sentence.{answerText}
 use Rattle.audit.proofs.Sentences.{taken-most, could-most, wait-most}
@@ -37,7 +38,7 @@ put-answer-spec =
     let at-names-of = at-put-could .before .before .before .before in
     let start = at-names-of .before .before .before .before in
     let could = at-names-of .names-of in
-    (omega (arith, at-put-could .put-could .ensures .ended, could-most (start .args .unit) (could .result .count) (could .result .items) (could .ensures .1)), taken-most _ _ (at-names-of2 .names-of2 .ensures .1)))
+    (omega (arith, at-put-could .put-could .ensures .ended, could-most (start .args .unit) (take (could .result .count) (could .result .items)) (taken-most _ _ (could .ensures .1))), taken-most _ _ (at-names-of2 .names-of2 .ensures .1)))
     (λ c κs.
     let at-put-waits = c .before .before .before in
     let at-names-of2 = at-put-waits .before .before .before .before in
@@ -46,7 +47,7 @@ put-answer-spec =
     let start = at-names-of .before .before .before .before in
     let could = at-names-of .names-of in
     let waited = at-names-of2 .names-of2 in
-    omega (arith, at-put-could .put-could .ensures .ended, at-put-waits .put-waits .ensures .ended, could-most (start .args .unit) (could .result .count) (could .result .items) (could .ensures .1), wait-most (waited .result .count) (waited .result .items) (waited .ensures .1)))
+    omega (arith, at-put-could .put-could .ensures .ended, at-put-waits .put-waits .ensures .ended, could-most (start .args .unit) (take (could .result .count) (could .result .items)) (taken-most _ _ (could .ensures .1)), wait-most (take (waited .result .count) (waited .result .items)) (taken-most _ _ (waited .ensures .1))))
     (λ c. search needs)
     (λ c.
     let at-put = c .before .before in

@@ -19,7 +19,7 @@ follow-line-spec =
     (λ c. read c .done-by .kept .1 .0)
     (λ c. read c .done-by .kept .1 .1 .0)
     (λ c. subst (λ g. Within g) (sym (c .as-before .ensures)) (read c .before .before .before .before .before .before .before .before .before .before .before .pre .1))
-    (λ c κs. let pre = c .before .before .before .before .before .before .before .before .before .before .before .before .before .before .before .before .before .before .before .before .before .before .pre in ((pre .0 .reply-room, pre .0 .standing-room, pre .0 .next-room), pre .1))
+    (λ c κs. let pre = c .before .before .before .before .before .before .before .before .before .before .before .before .before .before .before .before .before .before .before .before .before .before .pre in ((pre .0 .reply-room, pre .0 .standing-room, pre .0 .next-room, pre .0 .text-room), pre .1))
     (λ c. tracked c .before .before .before .before .before .before .before .before .before .before .before .before .done-by .kept .1 .0)
     (λ c. tracked c .before .before .before .before .before .before .before .before .before .before .before .before .done-by .kept .1 .1 .0)
     (λ c. tracked c .tracked .kept .1 .1 .1 .1 .0)

@@ -4,6 +4,7 @@ use Rattle.lists.proofs.Tests.{clashes}
 use lib.Seq.{length-take-le}
 use lib.ListN.{length-take}
 use native.Mathlib.Omega.{arith}
+use borrow.Author.Needs.{needs}
 use mathlib.Core.Path.{sym, refl, subst}
 use Rattle.oberkosz.proofs.follow.tracked.Statement.{statement}
 use Rattle.oberkosz.proofs.follow.tracked.Tie as tie
@@ -29,7 +30,7 @@ tracked-spec =
     (λ c. let pre = c .before .before .before .before .before .before .pre in omega (arith, pre .1 .standing-fits, pre .0 .1))
     (λ c. let pre = c .before .before .before .before .before .before .before .pre in sym (length-take-le _ _ (omega (arith, pre .1 .standing-fits, pre .0 .1))))
     (λ c κs. let pre = c .before .before .before .before .before .before .before .before .before .pre in (pre .0 .0, simp length-take (omega (arith, pre .0 .1)), omega (arith, pre .1 .ended-fits)))
-    (λ c κs. tt)
+    (λ c κs. search needs)
     (λ c. tracked (c .before .before .before .before .before) .track .kept .1 .1 .1 .1 .0)
     (λ c. c .before .before .full .kept .1 .1 .0)
     (λ c. refl)
@@ -49,7 +50,7 @@ tracked-spec =
     let at = tracked (fit copy .before) in
     let pre = start at .pre in
     (record { standing-fits = omega (arith, few); ended-fits = pre .1 .ended-fits }, λ g. copied _ _ _ _ _ (at .track .ensures .0) (omega (arith, few, pre .0 .2)) refl _ _ _ _ (copy .put-bytes .ensures) (omega (arith, few, pre .0 .1)) refl))
-    (λ c κs. tt)
+    (λ c κs. search needs)
     (λ c. tracked (fit (copied-at (c .before .before .before .before .before .before)) .before) .track .kept .1 .1 .1 .1 .0)
     (λ c. c .before .before .full2 .kept .1 .1 .0)
     (λ c. copied-at (c .before .before .before .before .before .before) .put-bytes .kept .0)

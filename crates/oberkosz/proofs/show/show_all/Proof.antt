@@ -19,10 +19,10 @@ show-all-spec =
     Inv-loop
     μ-loop
     (λ c. refl)
-    (λ c κs. omega arith)
+    (λ c κs. (omega arith, omega (arith, c .before .before .loop .inv, c .before .before .before .before .before .before .before .pre)))
     (λ c. c .before .before .before .show-of .kept .1 .1 .1 .1 .1 .1 .0 ∙ c .before .before .before .before .before .before .loop .inv)
     (λ c. search needs)
-    (λ c κs. omega arith)
+    (λ c κs. (omega arith, omega (arith, c .before .before .before .before .show-of .kept .1 .1 .1 .1 .1 .1 .0, c .before .before .before .before .before .before .before .loop .inv, c .before .before .before .before .before .before .before .before .before .before .before .before .pre)))
     (λ c. c .before .before .before .show-of2 .kept .1 .1 .1 .1 .1 .1 .0 ∙ c .before .before .before .before .before .before .before .before .show-of .kept .1 .1 .1 .1 .1 .1 .0 ∙ c .before .before .before .before .before .before .before .before .before .before .before .loop .inv)
     (λ c. search needs)
     (λ c. omega (arith, c .before .before .before .before .before .before .before .before .before .before .loop-test .taken))

@@ -7,8 +7,4 @@ use Rattle.oberkosz.proofs.step.write_text.Tie as tie
 pub write-text-spec : {M : Type 1} → statement M
 write-text-spec =
     tie.close
-    (tie.spec
-    (λ c. search needs)
-    (λ c. sym (length-take-le _ _ (search needs)))
-    (λ c κs. search needs)
-    (λ c. search needs))
+    (tie.spec (λ c. sym (length-take-le _ _ (search needs))) (λ c κs. search needs) (λ c. search needs))
