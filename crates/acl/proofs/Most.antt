@@ -32,8 +32,9 @@ use Rattle.paper.specs.declared.state.Token.{Token}
 use Rattle.paper.specs.declared.state.ProxyLun.{ProxyLun}
 use Rattle.paper.specs.declared.state.Coordinator.{Coordinator}
 use Rattle.report.proofs.PageSizes.{counts-of}
+use Rattle.journal.specs.Texts.{commaText}
 use Rattle.journal.proofs.Told.{decimal-most, hex-length}
-use Rattle.acl.specs.Words.{onText, offText, initiatorsName, unitsName, acesName, tokensName, proxiesName, commaText}
+use Rattle.acl.specs.Words.{onText, offText, initiatorsName, unitsName, acesName, tokensName, proxiesName}
 use Rattle.acl.specs.State.{lunText, unitText, initiatorText, numberText, idText, headText, switchText, enrolmentText, initiatorLine, initiatorsText, unitLine, unitsText, kindText, betweenText, luacdText, luacdsText, contentText, aceLine, acesText, requestText, tokenLine, tokensText, proxyBefore, unitOf, holderText, proxyLine, proxiesText, aclText, stateText}
 
 -- ---- what lines name

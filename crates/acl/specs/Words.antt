@@ -91,7 +91,3 @@ unitName = 0x75 ∷ 0x6E ∷ 0x69 ∷ 0x74 ∷ 0x20 ∷ []
 -- "LUN "
 abbrev pub lunName : List ℕ
 lunName = 0x4C ∷ 0x55 ∷ 0x4E ∷ 0x20 ∷ []
-
--- ", "
-abbrev pub commaText : List ℕ
-commaText = 0x2C ∷ 0x20 ∷ []

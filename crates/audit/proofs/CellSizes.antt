@@ -37,7 +37,8 @@ what-most what =
     (both (Most 23) (eqb what 0x08) (omega arith)
     (both (Most 23) (eqb what 0x09) (omega arith)
     (both (Most 23) (eqb what 0x0A) (omega arith)
-    (both (Most 23) (eqb what 0xFE) (omega arith) (omega arith)))))))))
+    (both (Most 23) (eqb what 0xFE) (omega arith)
+    (both (Most 23) (eqb what 0xFF) (omega arith) (omega arith))))))))))
 
 pub sender-most : (what by own : ℕ) → length (senderText what by own) ≤ 24
 unfolding senderText

@@ -13,10 +13,10 @@ use Rattle.lists.proofs.Parts.{length-count}
 use Rattle.lists.proofs.Sums.{gather-most}
 use Rattle.lists.proofs.Places.{between, between-cons, between-nil}
 use Rattle.lists.proofs.Tables.{Grown, grown-none, grown-step, grown-skip, grown-end, built-take, length-pad}
-use Rattle.journal.specs.Texts.{decimalText, byteText}
+use Rattle.journal.specs.Texts.{decimalText, byteText, commaText}
 use Rattle.journal.proofs.Told.{either-most, decimal-most}
 use Rattle.audit.specs.declared.cells.Asked.{Asked}
-use Rattle.audit.specs.Sentence.{isOf, could, belongs, andText, commaText, noInitiator, oneInitiator, manyInitiators, defaultText, absentText, endsAtText, closeText, wasText, wereText, before, joined, named, openers, couldPart, pendingText, waitPart, answerText, placeText, pastText, unitPart, linesPart, firstText}
+use Rattle.audit.specs.Sentence.{isOf, could, belongs, andText, noInitiator, oneInitiator, manyInitiators, defaultText, absentText, endsAtText, closeText, wasText, wereText, before, joined, named, openers, couldPart, pendingText, waitPart, answerText, placeText, pastText, unitPart, linesPart, firstText}
 
 -- ---- who is named
 pub belongs-could : (a : Asked) (es : List (List ℕ)) (waits : Bool) (i : ℕ) → waits ≡ false → belongs a es waits i ≡ could a es i

@@ -69,6 +69,7 @@ linkName = 0x6C ∷ 0x69 ∷ 0x6E ∷ 0x6B ∷ 0x20 ∷ 0x65 ∷ 0x76 ∷ 0x65 �
 abbrev pub setupName : List ℕ
 setupName = 0x73 ∷ 0x65 ∷ 0x74 ∷ 0x75 ∷ 0x70 ∷ []
 
+-- "No other command begins or ends a ground.": others have no name
 unfoldable pub whatText : ℕ → List ℕ
 whatText what =
     cond (eqb what 0x00) manageName
@@ -80,7 +81,8 @@ whatText what =
     (cond (eqb what 0x09) assignName
     (cond (eqb what 0x0A) releaseName
     (cond (eqb what 0xFE) linkName
-    setupName))))))))
+    (cond (eqb what 0xFF) setupName
+    [])))))))))
 
 -- " by "
 abbrev pub byText : List ℕ

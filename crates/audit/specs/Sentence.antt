@@ -5,7 +5,7 @@ use mathlib.Core.Bool.{Bool, true, false, cond, not, _&&_}
 use lib.ListN.{length, getD}
 use lib.Dec.{eqb, ltb}
 use Rattle.lists.specs.Lists.{any, keep, gather, below}
-use Rattle.journal.specs.Texts.{decimalText, byteText, endText}
+use Rattle.journal.specs.Texts.{decimalText, byteText, commaText, endText}
 use Rattle.audit.specs.Ledger.{endedSize, standingSize, runsOf}
 use Rattle.audit.specs.Cells.{isShown}
 use Rattle.audit.specs.declared.cells.Asked.{Asked}
@@ -31,10 +31,6 @@ belongs a es true i = not (could a es i) && any (isOf a i true) es
 -- " and "
 abbrev pub andText : List ℕ
 andText = 0x20 ∷ 0x61 ∷ 0x6E ∷ 0x64 ∷ 0x20 ∷ []
-
--- ", "
-abbrev pub commaText : List ℕ
-commaText = 0x2C ∷ 0x20 ∷ []
 
 -- "No initiator"
 abbrev pub noInitiator : List ℕ

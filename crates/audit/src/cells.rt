@@ -41,7 +41,8 @@ fn put_what(text: &mut [u8], at: usize, limit: usize, what: u8) -> usize
         0x09 => wire::put_bytes(text, at, limit, b"ASSIGN PROXY LUN"),
         0x0A => wire::put_bytes(text, at, limit, b"RELEASE PROXY LUN"),
         0xFE => wire::put_bytes(text, at, limit, b"link event"),
-        _ => wire::put_bytes(text, at, limit, b"setup"),
+        0xFF => wire::put_bytes(text, at, limit, b"setup"),
+        _ => at,
     }
 }
 

@@ -71,6 +71,10 @@ wordText = 0x3A ∷ 0x20 ∷ 0x77 ∷ 0x6F ∷ 0x72 ∷ 0x64 ∷ 0x20 ∷ []
 abbrev pub colonText : List ℕ
 colonText = 0x3A ∷ 0x20 ∷ []
 
+-- ", "
+abbrev pub commaText : List ℕ
+commaText = 0x2C ∷ 0x20 ∷ []
+
 -- " "
 abbrev pub spaceText : List ℕ
 spaceText = 0x20 ∷ []

@@ -1,5 +1,6 @@
--- Each statement has its own name.
+-- Each statement has its own name, and what is none has none.
 use borrow.Author.Tests.{ne-eqb}
+use Rattle.wire.proofs.Writing.{wrote-none}
 use Rattle.audit.specs.Cells.{whatText}
 use borrow.Author.Needs.{needs}
 use Rattle.audit.proofs.cells.put_what.Statement.{statement}
@@ -49,7 +50,7 @@ put-what-spec =
     (λ c. search needs)
     (λ c. let put = c .before .before in rw (put .before .before .before .match .keys9) (put .put-bytes9 .ensures))
     (λ c. search needs)
+    (λ c. let put = c .before .before in rw (put .before .before .before .match .keys10) (put .put-bytes10 .ensures))
     (λ c.
-    let put = c .before .before in
-    let r = put .before .before .before .match .rest in
-    rw (ne-eqb _ 0x00 (r .0 .0 .0 .0 .0 .0 .0 .0 .1), ne-eqb _ 0x01 (r .0 .0 .0 .0 .0 .0 .0 .1), ne-eqb _ 0x02 (r .0 .0 .0 .0 .0 .0 .1), ne-eqb _ 0x03 (r .0 .0 .0 .0 .0 .1), ne-eqb _ 0x07 (r .0 .0 .0 .0 .1), ne-eqb _ 0x08 (r .0 .0 .0 .1), ne-eqb _ 0x09 (r .0 .0 .1), ne-eqb _ 0x0A (r .0 .1), ne-eqb _ 0xFE (r .1)) (put .put-bytes10 .ensures)))
+    let r = c .match .rest in
+    rw (ne-eqb _ 0x00 (r .0 .0 .0 .0 .0 .0 .0 .0 .0 .1), ne-eqb _ 0x01 (r .0 .0 .0 .0 .0 .0 .0 .0 .1), ne-eqb _ 0x02 (r .0 .0 .0 .0 .0 .0 .0 .1), ne-eqb _ 0x03 (r .0 .0 .0 .0 .0 .0 .1), ne-eqb _ 0x07 (r .0 .0 .0 .0 .0 .1), ne-eqb _ 0x08 (r .0 .0 .0 .0 .1), ne-eqb _ 0x09 (r .0 .0 .0 .1), ne-eqb _ 0x0A (r .0 .0 .1), ne-eqb _ 0xFE (r .0 .1), ne-eqb _ 0xFF (r .1)) (wrote-none _ _ _)))
