@@ -1,7 +1,9 @@
 pub mod Runs
 pub mod Writers
 pub mod Grounds
+pub mod Keeping
 pub mod Standing
+pub mod Audits
 pub mod CellSizes
 pub mod Columns
 pub mod Sentences

@@ -10,3 +10,4 @@ pub mod Lent
 pub mod LentSlice
 pub mod Spelled
 pub mod RoundTrip
+pub mod ReplayRuns

@@ -7,3 +7,4 @@ pub mod Replay
 pub mod Lines
 pub mod TakenIn
 pub mod Parsed
+pub mod Reached

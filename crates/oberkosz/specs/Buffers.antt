@@ -1,21 +1,14 @@
--- The buffers that are lent to a run, and what stands in those of an audit.
+-- The buffers that are lent to a run.
 use Prim.Native.Nat.{ℕ, _≤_}
 use mathlib.Core.Path.{_≡_}
 use mathlib.Core.List.{List}
 use lib.ListN.{length}
-use Rattle.oberkosz.specs.declared.step.Grounds.{Grounds}
 
 -- each has room for the longest that it may have to hold
-pub record Lent (first second reply text standing next ended : List ℕ) : Type 0 where
+pub record Lent (first second reply text standing ended : List ℕ) : Type 0 where
   pub first-room : 131072 ≤ length first
   pub second-room : 131072 ≤ length second
   pub reply-room : length reply ≡ 65536
   pub text-room : 140000 ≤ length text
   pub standing-room : length standing ≡ 65536
-  pub next-room : length next ≡ 65536
   pub ended-room : length ended ≡ 393216
-
--- the grounds of an audit stand in their buffers
-pub record Within (g : Grounds) : Type 0 where
-  pub standing-fits : g .standing ≤ 65536
-  pub ended-fits : g .ended ≤ 393216

@@ -1,25 +1,27 @@
 // The journal on standard input, in chunks, whatever their ends cut.
 ghost use mathlib.Core.Path.{_≡_};
-ghost use mathlib.Core.Bool.{true};
-ghost use Prim.Native.Nat.{_+_, _≤_};
+ghost use mathlib.Core.Bool.{true, false};
+ghost use mathlib.Core.List.{List};
+ghost use Prim.Native.Nat.{ℕ, _+_, _≤_};
 ghost use lib.ListN.{length, take};
-ghost use Rattle.paper.specs.Fresh.{nothing, fresh};
-ghost use Rattle.journal.specs.Lines.{Replaying, fed, ended as atEnd};
-ghost use Rattle.oberkosz.specs.Buffers.{Lent, Within};
-ghost use Rattle.oberkosz.specs.Places.{At, Sound};
+ghost use Rattle.audit.specs.Following.{Auditing, begun, fed, ended as atEnd};
+ghost use Rattle.oberkosz.specs.Buffers.{Lent};
+ghost use Rattle.oberkosz.specs.Places.{inquiryOf, At, Sound};
+ghost use Rattle.oberkosz.specs.declared.step.Task.{Task};
 use crate::buffers;
 use crate::show;
 use crate::step;
-use crate::step::Grounds;
 use crate::step::Place;
 use crate::step::Task;
+use audit::following::Grounds;
 use coordinator::setup;
 use journal::lines;
 use libc::STDIN_FILENO;
 
 // "Before the first setup the coordinator is the one that a refused setup leaves"
 fn begun() -> Place
-    ensures { λ r. ⌜ (r .state ≡ fresh nothing) × (r .number ≡ 1) × (r .used ≡ 0) × Within (r .grounds) ⌝ }
+    ensures sound { λ r. ⌜ Sound r × (r .number ≡ 1) ⌝ }
+    ensures at { λ r. ⌜ ((task : Task) (line standing ended : List ℕ) → At task r line standing ended begun) ⌝ }
 {
     let started = setup::setup(b"", b"");
     let state = started.state;
@@ -53,13 +55,12 @@ fn one_line(
     reply: &mut [u8],
     text: &mut [u8],
     standing: &mut [u8],
-    next: &mut [u8],
     ended: &mut [u8],
 ) -> Part
-    requires { ⌜ Lent (now first) (now second) (now reply) (now text) (now standing) (now next) (now ended) ⌝ }
+    requires { ⌜ Lent (now first) (now second) (now reply) (now text) (now standing) (now ended) ⌝ }
     requires { ⌜ (262145 ≤ length (now line)) × Sound p × (1 ≤ length (now chunk)) × (p .number + 1 ≤ 18446744073709551615) ⌝ }
     ensures sound { λ r. ⌜ Sound (r .place) × (r .place .number ≤ p .number + 1) × (1 ≤ r .eaten) × (r .eaten ≤ length (now (chunk .entry))) ⌝ }
-    ensures fed { λ r. ⌜ ((x : Replaying) → At p (now (line .entry)) x → At (r .place) (now (line .exit)) (fed x (take (r .eaten) (now (chunk .entry))))) ⌝ }
+    ensures fed { λ r. ⌜ ((x : Auditing) → At task p (now (line .entry)) (now (standing .entry)) (now (ended .entry)) x → At task (r .place) (now (line .exit)) (now (standing .exit)) (now (ended .exit)) (fed (inquiryOf task) x (take (r .eaten) (now (chunk .entry))))) ⌝ }
 {
     let taken = lines::take_in(line, p.used, chunk);
     let size = taken.used;
@@ -88,7 +89,6 @@ fn one_line(
         reply,
         text,
         standing,
-        next,
         ended,
     );
     Part {
@@ -108,13 +108,12 @@ fn fed(
     reply: &mut [u8],
     text: &mut [u8],
     standing: &mut [u8],
-    next: &mut [u8],
     ended: &mut [u8],
 ) -> Place
-    requires { ⌜ Lent (now first) (now second) (now reply) (now text) (now standing) (now next) (now ended) ⌝ }
+    requires { ⌜ Lent (now first) (now second) (now reply) (now text) (now standing) (now ended) ⌝ }
     requires { ⌜ (262145 ≤ length (now line)) × Sound p × (p .number + length (now chunk) ≤ 18446744073709551615) ⌝ }
     ensures sound { λ r. ⌜ Sound r × (r .number ≤ p .number + length (now (chunk .entry))) ⌝ }
-    ensures fed { λ r. ⌜ ((x : Replaying) → At p (now (line .entry)) x → r .going ≡ true → At r (now (line .exit)) (fed x (now (chunk .entry)))) ⌝ }
+    ensures fed { λ r. ⌜ ((x : Auditing) → At task p (now (line .entry)) (now (standing .entry)) (now (ended .entry)) x → r .going ≡ true → At task r (now (line .exit)) (now (standing .exit)) (now (ended .exit)) (fed (inquiryOf task) x (now (chunk .entry)))) ⌝ }
 {
     let mut q = p;
     let mut k = 0;
@@ -129,7 +128,6 @@ fn fed(
             reply,
             text,
             standing,
-            next,
             ended,
         );
         let place = part.place;
@@ -153,13 +151,12 @@ fn last_line(
     reply: &mut [u8],
     text: &mut [u8],
     standing: &mut [u8],
-    next: &mut [u8],
     ended: &mut [u8],
 ) -> Place
-    requires { ⌜ Lent (now first) (now second) (now reply) (now text) (now standing) (now next) (now ended) ⌝ }
+    requires { ⌜ Lent (now first) (now second) (now reply) (now text) (now standing) (now ended) ⌝ }
     requires { ⌜ (262145 ≤ length (now line)) × Sound p × (p .number + 1 ≤ 18446744073709551615) ⌝ }
     ensures sound { λ r. ⌜ Sound r ⌝ }
-    ensures ended { λ r. ⌜ ((x : Replaying) → At p (now (line .entry)) x → r .state ≡ atEnd x .state) ⌝ }
+    ensures ended { λ r. ⌜ ((x : Auditing) → At task p (now (line .entry)) (now (standing .entry)) (now (ended .entry)) x → At task r (now (line .exit)) (now (standing .exit)) (now (ended .exit)) (atEnd (inquiryOf task) x)) ⌝ }
 {
     let size = p.used;
     if size == 0 {
@@ -174,7 +171,6 @@ fn last_line(
         reply,
         text,
         standing,
-        next,
         ended,
     )
 }
@@ -183,6 +179,21 @@ fn last_line(
 struct Turn {
     place: Place,
     more: bool,
+}
+
+// What was read of a journal that cannot be read on says nothing of the whole: nothing is shown.
+fn stopped(p: Place) -> Place
+    ensures { λ r. ⌜ (r .used ≡ p .used) × (r .grounds ≡ p .grounds) × (r .going ≡ false) ⌝ }
+{
+    let state = p.state;
+    let grounds = p.grounds;
+    Place {
+        state: state,
+        number: p.number,
+        used: p.used,
+        going: false,
+        grounds: grounds,
+    }
 }
 
 // One read of the journal, and what it brings; at its end the last line.
@@ -196,30 +207,22 @@ fn one_chunk(
     reply: &mut [u8],
     text: &mut [u8],
     standing: &mut [u8],
-    next: &mut [u8],
     ended: &mut [u8],
 ) -> Turn
-    requires { ⌜ Lent (now first) (now second) (now reply) (now text) (now standing) (now next) (now ended) ⌝ }
+    requires { ⌜ Lent (now first) (now second) (now reply) (now text) (now standing) (now ended) ⌝ }
     requires { ⌜ (262145 ≤ length (now line)) × (length (now chunk) ≡ 65536) × Sound p × (p .number + 65536 ≤ 18446744073709551615) ⌝ }
     ensures { λ r. ⌜ Sound (r .place) × (r .more ≡ true → r .place .number ≤ p .number + 65536) ⌝ }
 {
     let got = libc::read(STDIN_FILENO, chunk);
     if got < 0 {
         os::fail(b"oberkosz: cannot read");
+        return Turn {
+            place: stopped(p),
+            more: false,
+        };
     }
-    if got <= 0 {
-        let done = last_line(
-            task,
-            p,
-            line,
-            first,
-            second,
-            reply,
-            text,
-            standing,
-            next,
-            ended,
-        );
+    if got == 0 {
+        let done = last_line(task, p, line, first, second, reply, text, standing, ended);
         return Turn {
             place: done,
             more: false,
@@ -236,7 +239,6 @@ fn one_chunk(
         reply,
         text,
         standing,
-        next,
         ended,
     );
     Turn {
@@ -255,10 +257,9 @@ fn read_through(
     reply: &mut [u8],
     text: &mut [u8],
     standing: &mut [u8],
-    next: &mut [u8],
     ended: &mut [u8],
 ) -> Place
-    requires { ⌜ Lent (now first) (now second) (now reply) (now text) (now standing) (now next) (now ended) ⌝ }
+    requires { ⌜ Lent (now first) (now second) (now reply) (now text) (now standing) (now ended) ⌝ }
     requires { ⌜ (262145 ≤ length (now line)) × (length (now chunk) ≡ 65536) ⌝ }
     ensures { λ r. ⌜ Sound r ⌝ }
 {
@@ -275,7 +276,6 @@ fn read_through(
             reply,
             text,
             standing,
-            next,
             ended,
         );
         let place = turn.place;
@@ -296,7 +296,6 @@ pub fn run(task: Task) {
     let mut reply = io::large_buffer();
     let mut text = buffers::for_text();
     let mut standing = io::large_buffer();
-    let mut next = io::large_buffer();
     let mut ended = buffers::for_ended();
     let p = read_through(
         task,
@@ -307,7 +306,6 @@ pub fn run(task: Task) {
         &mut reply,
         &mut text,
         &mut standing,
-        &mut next,
         &mut ended,
     );
     show::show(task, p, &standing, &ended, &mut text);

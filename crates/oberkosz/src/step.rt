@@ -1,15 +1,21 @@
 // One line of a journal: answered, or followed for an audit.
 ghost use mathlib.Core.Path.{_≡_};
+ghost use mathlib.Core.Bool.{true, _&&_};
 ghost use Prim.Native.Nat.{_+_, _≤_};
 ghost use lib.ListN.{length};
 ghost use Rattle.journal.specs.Statements.{readLine};
 ghost use Rattle.journal.specs.Replay.{stepLine};
-ghost use Rattle.oberkosz.specs.Buffers.{Lent, Within};
+ghost use Rattle.audit.specs.Room.{Within};
+ghost use Rattle.audit.specs.Following.{keptIn, followed};
+ghost use Rattle.oberkosz.specs.Buffers.{Lent};
+ghost use Rattle.oberkosz.specs.Places.{isAudit, inquiryOf};
 use crate::follow;
+use audit::following::Grounds;
 use journal::replaying;
 use libc::STDERR_FILENO;
 use libc::STDOUT_FILENO;
 use paper::state::Coordinator;
+use showing::out;
 
 // What the words of the program ask for; or what is wrong with them.
 pub enum Kind {
@@ -41,32 +47,10 @@ pub struct Place {
     pub grounds: Grounds,
 }
 
-// How many bytes the grounds that stand and those that ended take.
-pub struct Grounds {
-    pub standing: usize,
-    pub ended: usize,
-}
-
-// Writes a text, or says why it cannot.
-pub fn write(fd: i32, text: &[u8]) -> bool {
-    let written = io::write_all(fd, text);
-    if !written {
-        os::fail(b"oberkosz: cannot write");
-    }
-    written
-}
-
-// The first bytes of a text buffer.
-pub fn write_text(fd: i32, text: &[u8], size: usize) -> bool
-    requires { ⌜ size ≤ length (now text) ⌝ }
-{
-    write(fd, &text[..size])
-}
-
 // "a line that is no statement is told on standard error"
 fn tell_fault(text: &[u8]) -> bool {
     if wire::same(text, b"line ", 5) {
-        return write(STDERR_FILENO, text);
+        return out::write(STDERR_FILENO, text);
     }
     true
 }
@@ -74,7 +58,7 @@ fn tell_fault(text: &[u8]) -> bool {
 // What is written of a line: the answer, where answers are asked for.
 fn told(kind: Kind, text: &[u8]) -> bool {
     match kind {
-        Kind::Replay => write(STDOUT_FILENO, text),
+        Kind::Replay => out::write(STDOUT_FILENO, text),
         Kind::Audit => tell_fault(text),
         Kind::Acl => tell_fault(text),
         _ => true,
@@ -111,8 +95,16 @@ fn answered(
     }
 }
 
-fn both(a: bool, b: bool) -> bool {
-    a && b
+fn all_of(a: bool, b: bool, c: bool) -> bool
+    ensures { λ r. ⌜ r ≡ (a && (b && c)) ⌝ }
+{
+    if !a {
+        return false;
+    }
+    if !b {
+        return false;
+    }
+    c
 }
 
 // A whole line: answered, and followed for an audit.
@@ -125,13 +117,13 @@ pub fn step(
     reply: &mut [u8],
     text: &mut [u8],
     standing: &mut [u8],
-    next: &mut [u8],
     ended: &mut [u8],
 ) -> Place
-    requires { ⌜ Lent (now first) (now second) (now reply) (now text) (now standing) (now next) (now ended) ⌝ }
+    requires { ⌜ Lent (now first) (now second) (now reply) (now text) (now standing) (now ended) ⌝ }
     requires { ⌜ (Within (p .grounds)) × (p .number + 1 ≤ 18446744073709551615) ⌝ }
     ensures state { λ r. ⌜ r .state ≡ stepLine (p .state) (p .number) (readLine (now (line .entry))) .state ⌝ }
     ensures place { λ r. ⌜ (r .number ≡ p .number + 1) × (r .used ≡ 0) × Within (r .grounds) ⌝ }
+    ensures kept { λ r. ⌜ (isAudit (task .kind) ≡ true → r .going ≡ true → (p .going ≡ true) × (keptIn (r .grounds) (now (standing .exit)) (now (ended .exit)) ≡ followed (inquiryOf task) (p .number) (readLine (now (line .entry))) (r .state) (keptIn (p .grounds) (now (standing .entry)) (now (ended .entry))))) ⌝ }
 {
     let kind = task.kind;
     let before = p.state;
@@ -150,7 +142,6 @@ pub fn step(
         reply,
         text,
         standing,
-        next,
         ended,
     );
     let grounds = followed.grounds;
@@ -158,7 +149,7 @@ pub fn step(
         state: state,
         number: number + 1,
         used: 0,
-        going: both(told.going, followed.going),
+        going: all_of(p.going, told.going, followed.fits),
         grounds: grounds,
     }
 }

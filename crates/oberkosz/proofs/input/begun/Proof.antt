@@ -1,7 +1,8 @@
-use native.Mathlib.Omega.{arith}
+-- The coordinator is that of an empty setup, and nothing was read or kept.
 use mathlib.Core.Path.{ap, refl, _∙_}
-use Rattle.oberkosz.proofs.Feeding.{begun-so}
+use native.Mathlib.Omega.{arith}
 use borrow.Author.Needs.{needs}
+use Rattle.oberkosz.proofs.Feeding.{begun-so}
 use Rattle.oberkosz.proofs.input.begun.Statement.{statement}
 use Rattle.oberkosz.proofs.input.begun.Tie as tie
 
@@ -12,4 +13,4 @@ begun-spec =
     (λ c. search needs)
     (λ c. search needs)
     (λ c κs. search needs)
-    (λ c. (ap (λ s. s .state) (c .before .setup .ensures) ∙ begun-so, refl, refl, record { standing-fits = omega arith; ended-fits = omega arith })))
+    (λ c. ((record { used-fits = omega arith; within = record { standing-fits = omega arith; ended-fits = omega arith } }, refl), λ task line standing ended. record { state = ap (λ s. s .state) (c .before .setup .ensures) ∙ begun-so; number = refl; kept = refl; grounds = λ audit going. refl })))

@@ -3,8 +3,8 @@ use Rattle.audit.proofs.Sentences.{first-most}
 use borrow.Author.Needs.{needs}
 use native.Mathlib.Omega.{arith}
 use Rattle.audit.proofs.Writers.{ends-within}
-use Rattle.oberkosz.proofs.show.show_first.Statement.{statement}
-use Rattle.oberkosz.proofs.show.show_first.Tie as tie
+use Rattle.showing.proofs.shown.show_first.Statement.{statement}
+use Rattle.showing.proofs.shown.show_first.Tie as tie
 
 pub show-first-spec : {M : Type 1} → statement M
 show-first-spec =

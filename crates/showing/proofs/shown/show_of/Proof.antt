@@ -3,8 +3,8 @@ use lib.ListN.{length, length-take, length-drop}
 use borrow.Author.Needs.{needs}
 use native.Mathlib.Omega.{arith}
 use mathlib.Core.Path.{_≡_, refl, sym, _∙_}
-use Rattle.oberkosz.proofs.show.show_of.Statement.{statement}
-use Rattle.oberkosz.proofs.show.show_of.Tie as tie
+use Rattle.showing.proofs.shown.show_of.Statement.{statement}
+use Rattle.showing.proofs.shown.show_of.Tie as tie
 
 abbrev Inv-loop : tie.InvT-loop
 Inv-loop i a tsv widths runs size text₀ rest₀ text rest = length text ≡ length text₀

@@ -3,8 +3,8 @@ use borrow.Author.Needs.{needs}
 use native.Mathlib.Omega.{arith}
 use mathlib.Core.Path.{_≡_, refl, _∙_}
 use Prim.Native.Nat.{_-_}
-use Rattle.oberkosz.proofs.show.show_all.Statement.{statement}
-use Rattle.oberkosz.proofs.show.show_all.Tie as tie
+use Rattle.showing.proofs.shown.show_all.Statement.{statement}
+use Rattle.showing.proofs.shown.show_all.Tie as tie
 
 abbrev Inv-loop : tie.InvT-loop
 Inv-loop a tsv widths ended standing text₀ i₀ text i = length text ≡ length text₀

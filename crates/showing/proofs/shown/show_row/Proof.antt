@@ -3,8 +3,8 @@ use Rattle.audit.proofs.CellSizes.{row-most}
 use borrow.Author.Needs.{needs}
 use native.Mathlib.Omega.{arith}
 use Rattle.audit.proofs.Writers.{ends-within}
-use Rattle.oberkosz.proofs.show.show_row.Statement.{statement}
-use Rattle.oberkosz.proofs.show.show_row.Tie as tie
+use Rattle.showing.proofs.shown.show_row.Statement.{statement}
+use Rattle.showing.proofs.shown.show_row.Tie as tie
 
 pub show-row-spec : {M : Type 1} → statement M
 show-row-spec =

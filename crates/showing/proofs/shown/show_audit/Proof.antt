@@ -3,8 +3,8 @@ use Rattle.audit.proofs.Sentences.{answer-most}
 use borrow.Author.Needs.{needs}
 use native.Mathlib.Omega.{arith}
 use Rattle.audit.proofs.Writers.{ends-within}
-use Rattle.oberkosz.proofs.show.show_audit.Statement.{statement}
-use Rattle.oberkosz.proofs.show.show_audit.Tie as tie
+use Rattle.showing.proofs.shown.show_audit.Statement.{statement}
+use Rattle.showing.proofs.shown.show_audit.Tie as tie
 
 pub show-audit-spec : {M : Type 1} → statement M
 show-audit-spec =

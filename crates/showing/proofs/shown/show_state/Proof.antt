@@ -3,11 +3,11 @@ use Rattle.acl.proofs.Most.{state-most}
 use borrow.Author.Needs.{needs}
 use native.Mathlib.Omega.{arith}
 use Rattle.audit.proofs.Writers.{ends-within}
-use Rattle.oberkosz.proofs.show.state.Statement.{statement}
-use Rattle.oberkosz.proofs.show.state.Tie as tie
+use Rattle.showing.proofs.shown.show_state.Statement.{statement}
+use Rattle.showing.proofs.shown.show_state.Tie as tie
 
-pub state-spec : {M : Type 1} → statement M
-state-spec =
+pub show-state-spec : {M : Type 1} → statement M
+show-state-spec =
     tie.close
     (tie.spec
     (λ c κs. search needs)

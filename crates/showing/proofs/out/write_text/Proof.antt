@@ -1,8 +1,8 @@
 use lib.Seq.{length-take-le}
 use mathlib.Core.Path.{sym}
 use borrow.Author.Needs.{needs}
-use Rattle.oberkosz.proofs.step.write_text.Statement.{statement}
-use Rattle.oberkosz.proofs.step.write_text.Tie as tie
+use Rattle.showing.proofs.out.write_text.Statement.{statement}
+use Rattle.showing.proofs.out.write_text.Tie as tie
 
 pub write-text-spec : {M : Type 1} → statement M
 write-text-spec =
