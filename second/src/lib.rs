@@ -8,10 +8,11 @@
 //! initiator reaches), `pages`, `manage` and `commands` (what changes the tables),
 //! `report` (the bytes), `coordinator` (the order of tests), `journal` (the text),
 //! `replay` and `table`, on which `audit` and `acl` stand (what a person reads),
-//! then `make` and `cover`, which only serve the tests.
+//! then `make`, `cover` and `bench`, which only serve the tests.
 
 pub mod acl;
 pub mod audit;
+pub mod bench;
 pub mod bytes;
 pub mod commands;
 pub mod coordinator;

@@ -1,6 +1,6 @@
-//! `second answer`, `audit`, `acl`, `make` and `cover`.
+//! `second answer`, `audit`, `acl`, `make`, `cover` and `bench`.
 
-use second::{acl, audit, cover, journal, make};
+use second::{acl, audit, bench, cover, journal, make};
 use std::fs::File;
 use std::io::{self, BufRead, BufReader, BufWriter};
 use std::process::ExitCode;
@@ -14,6 +14,9 @@ second make SEED RUNS [THEME]        a journal of RUNS setups, each with its run
 second cover [--strict] [JOURNAL ..] what journals cover (standard input, if none is named);
                                      --strict fails if an item is missing, or if of several
                                      journals one alone has it
+second bench calls|copies N < JOURNAL
+                                     the last statement N times on a copy of the state before
+                                     it, or N copies alone, for instructions to be counted
 ";
 
 fn main() -> ExitCode {
@@ -42,6 +45,16 @@ fn run(words: &[&str]) -> io::Result<ExitCode> {
             Some(order) => make::make(&order, &mut output)?,
             None => return Ok(usage("make: expected SEED RUNS [THEME]")),
         },
+        ["bench", work @ ("calls" | "copies"), times] => {
+            let Ok(times) = times.parse() else {
+                return Ok(usage("bench: expected a number of times"));
+            };
+            let work = match *work {
+                "calls" => bench::Work::Calls,
+                _ => bench::Work::Copies,
+            };
+            bench::bench(work, times, &mut input())?;
+        }
         ["cover", "--strict", files @ ..] => {
             let whole = cover::cover(journals(files)?, &mut output)?;
             return Ok(ExitCode::from(u8::from(!whole)));
