@@ -2,7 +2,11 @@
 # `make check` proves what changed since the last check; `make lists` runs the second program's part alone;
 # `make fuzz SEED=n [RUNS=100]` holds the proved program to the second one on fresh journals;
 # `make bench` counts what the standing rules, every call and a replay cost (docs/PERFORMANCE.md). Neither is part of the gate.
-.PHONY: audit picture test check lists fuzz bench fmt
+# `make lib` puts the C library and its header into target/lib; `make install PREFIX=/usr/local` installs both, with a
+# pkg-config file, and the program; `make bindings` holds the library, from C and from Rust, to the committed journals.
+.PHONY: audit picture test check lists fuzz bench fmt lib install bindings
+
+PREFIX ?= /usr/local
 
 audit:
 	@tools/audit
@@ -29,3 +33,19 @@ bench:
 
 fmt:
 	rt fmt
+
+lib:
+	@echo "proving and building the C library; the first time this takes some ten minutes" >&2
+	@rt staticlib shelf
+	@mkdir -p target/lib
+	@cp target/staticlib/libshelf.a target/lib/liboberkosz.a
+	@cp include/oberkosz.h target/lib/oberkosz.h
+	@echo "target/lib has liboberkosz.a and oberkosz.h"
+
+install: lib
+	@tools/build
+	@tools/install $(PREFIX)
+
+bindings: lib
+	OBERKOSZ_LIB=$(CURDIR)/target/lib tests/check-c
+	OBERKOSZ_LIB=$(CURDIR)/target/lib tests/check-rust
