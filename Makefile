@@ -44,7 +44,7 @@ lib:
 
 install: lib
 	@tools/build
-	@tools/install $(PREFIX)
+	@tools/install "$(PREFIX)"
 
 bindings: lib
 	OBERKOSZ_LIB=$(CURDIR)/target/lib tests/check-c

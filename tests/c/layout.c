@@ -193,7 +193,7 @@ static void held_transport(size_t i)
         return;
     HOLDS(a->extent == (i == LISTED_TRANSPORT ? OBERKOSZ_EVERYTHING : OBERKOSZ_LISTED));
     HOLDS(a->count == (i == LISTED_TRANSPORT ? 0 : OBERKOSZ_LUACDS));
-    for (size_t k = 0; k < a->count; k++)
+    for (size_t k = 0; a->extent == OBERKOSZ_LISTED && k < OBERKOSZ_LUACDS; k++)
         HOLDS(has_luacd(a, listed_lun(i, k), listed_unit(i, k)));
 }
 
@@ -316,6 +316,92 @@ static void answers(void)
     HOLDS(o.state.initiators.count == 0 && o.state.units.count == 0);
 }
 
+/* ---- every other number of the header */
+static void numbers(void)
+{
+    uint8_t list[HEADER] = { 0 };
+    uint8_t cdb[OBERKOSZ_CDB_BYTES] = { 0x12 };
+    struct oberkosz_outcome o = oberkosz_command(state, 0, cdb, sizeof cdb, list, 0, 0, reply, 0);
+    HOLDS(checked(o.values, OBERKOSZ_OTHER_OPERATION));
+    o = oberkosz_command(state, 0, cdb, sizeof cdb - 1, list, 0, 0, reply, 0);
+    HOLDS(refused(o.values, OBERKOSZ_BAD_CDB));
+    o = oberkosz_command(state, 0, cdb, sizeof cdb, list, 1, 0, reply, 0);
+    HOLDS(refused(o.values, OBERKOSZ_BAD_PARAMETERS));
+    HOLDS(checked(in(0, 0x05, 0, 0).values, OBERKOSZ_INVALID_FIELD));
+    HOLDS(checked(in(0, OBERKOSZ_IN_REQUEST_PROXY_TOKEN, (uint64_t)listed_lun(0, 0) << 48, 1).values,
+                  OBERKOSZ_NO_ROOM));
+    HOLDS(checked(out(0, OBERKOSZ_OUT_DISABLE, list, 11).values, OBERKOSZ_WRONG_LENGTH));
+    HOLDS(checked(out(0, OBERKOSZ_OUT_ENROLL, list, ID).values, OBERKOSZ_ENROLLED_ELSEWHERE));
+    HOLDS(checked(out(15, OBERKOSZ_OUT_ENROLL, list, ID).values, OBERKOSZ_NO_ACE));
+    HOLDS(checked(out(0, OBERKOSZ_OUT_ASSIGN_PROXY_LUN, list, 16).values, OBERKOSZ_DEAD_TOKEN));
+    HOLDS(checked(out(0, OBERKOSZ_OUT_RELEASE_PROXY_LUN, list, 8).values, OBERKOSZ_BAD_LUN));
+    access_id(list, 0);
+    HOLDS(checked(out(15, OBERKOSZ_OUT_ENROLL, list, ID).values, OBERKOSZ_CLASH));
+    memset(list, 0, sizeof list);
+    put64(list + 4, KEY);
+    HOLDS(checked(out(0, OBERKOSZ_OUT_MANAGE_ACL, list, HEADER).values, OBERKOSZ_BAD_LIST));
+}
+
+/* ---- what ends: a proxy LUN, a token, all tokens of a LUN, an enrolment, everything */
+static void ended(void)
+{
+    uint8_t lun[8] = { [1] = 220 };
+    HOLDS(good(out(0, OBERKOSZ_OUT_RELEASE_PROXY_LUN, lun, sizeof lun).values));
+    HOLDS(state.proxies.count == OBERKOSZ_PROXY_LUNS - 1);
+    uint8_t token[8];
+    put64(token, token_number(1));
+    HOLDS(good(out(1, OBERKOSZ_OUT_REVOKE_PROXY_TOKEN, token, sizeof token).values));
+    HOLDS(state.tokens.count == OBERKOSZ_TOKENS - 1);
+    HOLDS(state.proxies.count == OBERKOSZ_PROXY_LUNS - 2);
+    lun[1] = listed_lun(2, 2);
+    HOLDS(good(out(2, OBERKOSZ_OUT_REVOKE_ALL_PROXY_TOKENS, lun, sizeof lun).values));
+    HOLDS(state.tokens.count == OBERKOSZ_TOKENS - 2);
+    HOLDS(good(out(14, OBERKOSZ_OUT_CANCEL_ENROLLMENT, lun, 0).values));
+    HOLDS(state.initiators.enrolments[ENROLMENT * 14] == OBERKOSZ_NOT_ENROLLED);
+    uint8_t disable[12] = { 0 };
+    put64(disable + 4, KEY);
+    HOLDS(good(out(0, OBERKOSZ_OUT_DISABLE, disable, sizeof disable).values));
+    HOLDS(!state.enabled && state.generation == 0 && state.key == 0);
+    HOLDS(state.acl.count == 0 && state.tokens.count == 0 && state.proxies.count == 0);
+}
+
+/* ---- the longest replies, to the byte: 32 ACEs alike and 32 tokens, assigned */
+static void filled(uint8_t page, size_t luacds)
+{
+    static uint8_t list[HEADER + OBERKOSZ_ACES * (ACE_PAGE + OBERKOSZ_LUACDS * LUACD_BYTES)];
+    memset(list, 0, sizeof list);
+    size_t n = HEADER;
+    for (size_t ace = 0; ace < OBERKOSZ_ACES; ace++) {
+        uint8_t id[ID];
+        access_id(id, ace / 2);
+        n += put_page(list + n, page, ace % 2, ace % 2 ? ids + ID * (ace / 2) : id, luacds);
+        for (size_t k = 0; k < luacds; k++)
+            n += put_luacd(list + n, default_lun(k), k);
+    }
+    HOLDS(good(out(0, OBERKOSZ_OUT_MANAGE_ACL, list, n).values));
+    for (size_t i = 0; i < OBERKOSZ_INITIATORS; i++) {
+        access_id(list, i);
+        HOLDS(good(out(i, OBERKOSZ_OUT_ENROLL, list, ID).values));
+    }
+    for (size_t k = 0; k < OBERKOSZ_TOKENS; k++) {
+        uint8_t assigned[16] = { [9] = (uint8_t)(default_lun(k) + 1) };
+        put64(assigned, token_number(k));
+        uint64_t lun = (uint64_t)default_lun(0) << 48;
+        HOLDS(good(in(0, OBERKOSZ_IN_REQUEST_PROXY_TOKEN, lun, token_number(k)).values));
+        HOLDS(good(out(0, OBERKOSZ_OUT_ASSIGN_PROXY_LUN, assigned, sizeof assigned).values));
+    }
+}
+
+static void longest(void)
+{
+    fresh();
+    filled(0x00, OBERKOSZ_LUACDS);
+    HOLDS(in(0, OBERKOSZ_IN_REPORT_ACL, 0, 0).delivered == OBERKOSZ_REPORT_BYTES);
+    fresh();
+    filled(0x01, 0);
+    HOLDS(oberkosz_reach(state, reply, sizeof reply).delivered == OBERKOSZ_REACH_BYTES);
+}
+
 /* ---- a spoiled field is seen: refusal 2, and the state comes back with it */
 #define SPOILED(field, value)                                                              \
     do {                                                                                   \
@@ -371,8 +457,11 @@ int main(void)
     tokens_held();
     proxies_held();
     answers();
+    numbers();
     spoiled();
+    ended();
     spoiled_unused();
+    longest();
     printf("%u facts hold, %u fail\n", facts - failures, failures);
     return failures != 0;
 }
