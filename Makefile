@@ -30,6 +30,7 @@ fuzz:
 bench:
 	tests/bench
 	tests/bench-journal
+	tests/bench-library
 
 fmt:
 	rt fmt

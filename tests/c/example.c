@@ -5,12 +5,14 @@
 
 int main(void)
 {
+    if (!oberkosz_header_fits())
+        return 1; /* the library is another one than this header was made for */
     /* One TransportID (Fibre Channel), and the default LUNs of two units: 05h and 06h. */
     static const uint8_t ids[24] = { [23] = 0x01 };
     static const uint8_t luns[2 * 8] = { [1] = 0x05, [8 + 1] = 0x06 };
     struct oberkosz_outcome o = oberkosz_setup(ids, sizeof ids, luns, sizeof luns);
     if (o.values.status != OBERKOSZ_GOOD)
-        return 1; /* o.values.number is 1: the setup breaks a rule */
+        return 2; /* o.values.number is 1: the setup breaks a rule */
 
     /* MANAGE ACL: the new key is 7; whoever has that TransportID finds unit 0 at LUN 1. */
     static const uint8_t list[28 + 4 + 28 + 20] = {

@@ -451,6 +451,10 @@ static void spoiled_unused(void)
 
 int main(void)
 {
+    if (!oberkosz_header_fits()) {
+        puts("the library's own numbers are not the header's");
+        return 1;
+    }
     fresh();
     managed();
     enrolled();

@@ -317,6 +317,10 @@ static void answer(uint64_t number, size_t size)
 
 int main(void)
 {
+    if (!oberkosz_header_fits()) {
+        fputs("replay: the library is another one than the header was made for\n", stderr);
+        return 2;
+    }
     /* "Before the first setup the coordinator is the one that a refused setup leaves" */
     state = oberkosz_setup(bytes_a, 1, bytes_b, 0).state;
     size_t size;
