@@ -27,6 +27,7 @@ pub enum Extent {
 }
 
 // A unit at a LUN.
+#[repr(C)]
 pub struct Luacd {
     pub lun: u16,
     pub unit: u8,
@@ -53,6 +54,7 @@ pub struct Acl {
 }
 
 // A live token: its number, the unit that it opens, who got it and by naming which LUN.
+#[repr(C)]
 pub struct Token {
     pub number: u64,
     pub unit: u8,
@@ -60,24 +62,28 @@ pub struct Token {
     pub lun: u16,
 }
 
+#[repr(C)]
 pub struct Tokens {
     pub count: usize,
     pub items: [Token; 32],
 }
 
 // A proxy LUN: whose it is, and the number of the live token that it stands on.
+#[repr(C)]
 pub struct ProxyLun {
     pub initiator: u8,
     pub lun: u16,
     pub token: u64,
 }
 
+#[repr(C)]
 pub struct ProxyLuns {
     pub count: usize,
     pub items: [ProxyLun; 32],
 }
 
 // The initiators: their TransportIDs one after the other, and their enrolments, each the stage and the AccessID.
+#[repr(C)]
 pub struct Initiators {
     pub count: usize,
     pub ids: [u8; IDS_SIZE],
@@ -85,6 +91,7 @@ pub struct Initiators {
 }
 
 // The units: their default LUNs.
+#[repr(C)]
 pub struct Units {
     pub count: usize,
     pub luns: [u16; 32],

@@ -1,0 +1,6 @@
+use borrow.Author.Tests.{eq-eqb, ne-eqb}
+use Rattle.shelf.proofs.crossing.extent_of.Statement.{statement}
+use Rattle.shelf.proofs.crossing.extent_of.Tie as tie
+
+pub extent-of-spec : {M : Type 1} → statement M
+extent-of-spec = tie.close (tie.spec (λ c. rw (eq-eqb _ _ (c .if1 .taken))) (λ c. rw (ne-eqb _ _ (c .if1 .left))))

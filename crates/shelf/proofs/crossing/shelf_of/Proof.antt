@@ -1,0 +1,12 @@
+use borrow.Author.Needs.{needs}
+use Rattle.shelf.specs.Crossing.{shelfOf}
+use Rattle.shelf.proofs.crossing.shelf_of.Statement.{statement}
+use Rattle.shelf.proofs.crossing.shelf_of.Tie as tie
+
+pub shelf-of-spec : {M : Type 1} → statement M
+unfolding shelfOf
+shelf-of-spec =
+    tie.close
+    (tie.spec
+    (λ c κs. search needs)
+    (λ c. rw (c .aces-out .ensures)))
