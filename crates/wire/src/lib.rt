@@ -51,11 +51,36 @@ pub fn be32(s: &[u8], at: usize) -> u32
     w32(be16(s, at)) * 65536 + w32(be16(s, at + 2))
 }
 
+// Numbers whose bytes are all there: the compiler reads them at once.
+fn within16(s: &[u8], at: usize) -> u16
+    requires { ⌜ at + 2 ≤ length (now s) ⌝ }
+    ensures { λ r. ⌜ r ≡ be 2 (now (s .entry)) at ⌝ }
+{
+    w16(s[at]) * 256 + w16(s[at + 1])
+}
+
+fn within32(s: &[u8], at: usize) -> u32
+    requires { ⌜ at + 4 ≤ length (now s) ⌝ }
+    ensures { λ r. ⌜ r ≡ be 4 (now (s .entry)) at ⌝ }
+{
+    w32(within16(s, at)) * 65536 + w32(within16(s, at + 2))
+}
+
+fn within64(s: &[u8], at: usize) -> u64
+    requires { ⌜ at + 8 ≤ length (now s) ⌝ }
+    ensures { λ r. ⌜ r ≡ be 8 (now (s .entry)) at ⌝ }
+{
+    w64(within32(s, at)) * 4294967296 + w64(within32(s, at + 4))
+}
+
 pub fn be64(s: &[u8], at: usize) -> u64
     ensures { λ r. ⌜ r ≡ be 8 (now (s .entry)) at ⌝ }
 {
     if s.len() <= at {
         return 0;
+    }
+    if 8 <= s.len() - at {
+        return within64(s, at);
     }
     w64(be32(s, at)) * 4294967296 + w64(be32(s, at + 4))
 }
