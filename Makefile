@@ -3,8 +3,8 @@
 # `make fuzz SEED=n [RUNS=100]` holds the proved program to the second one on fresh journals;
 # `make bench` counts what the standing rules, every call and a replay cost (docs/PERFORMANCE.md). Neither is part of the gate.
 # `make lib` puts the C library and its header into target/lib; `make install PREFIX=/usr/local` installs both, with a
-# pkg-config file, and the program; `make bindings` holds the library, from C and from Rust, to the committed journals.
-.PHONY: audit picture test check lists fuzz bench fmt lib install bindings
+# pkg-config file, and the program.
+.PHONY: audit picture test check lists fuzz bench fmt lib install
 
 PREFIX ?= /usr/local
 
@@ -46,7 +46,3 @@ lib:
 install: lib
 	@tools/build
 	@tools/install "$(PREFIX)"
-
-bindings: lib
-	OBERKOSZ_LIB=$(CURDIR)/target/lib tests/check-c
-	OBERKOSZ_LIB=$(CURDIR)/target/lib tests/check-rust

@@ -96,6 +96,17 @@ impl fmt::Display for Fault {
 
 impl std::error::Error for Fault {}
 
+impl raw::Values {
+    /// The value of a call, if its status is GOOD.
+    fn good<T>(&self, value: T) -> Result<T, Fault> {
+        match self.status {
+            raw::GOOD => Ok(value),
+            raw::CHECK_CONDITION => Err(Fault::Check(Sense(self.sense))),
+            _ => Err(Fault::Refused(Refusal::numbered(self.number))),
+        }
+    }
+}
+
 /// A coordinator. It comes from the library alone and only the library changes it, so it
 /// breaks no standing rule: that is proved of every state that the library hands back.
 #[derive(Clone, PartialEq, Eq)]

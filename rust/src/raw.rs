@@ -1,6 +1,4 @@
-//! What crosses to the library, as include/oberkosz.h has it, and nothing else.
-
-use crate::Fault;
+//! What crosses to the library, as include/oberkosz.h has it, and the calls; nothing else.
 
 pub const GOOD: u8 = 0x00;
 pub const CHECK_CONDITION: u8 = 0x02;
@@ -184,15 +182,4 @@ pub fn route(state: &State, initiator: usize, lun: u64) -> Opening {
 /// The state is one that the library handed back, unchanged.
 pub unsafe fn route_standing(state: &State, initiator: usize, lun: u64) -> Opening {
     calls::oberkosz_route_standing(*state, initiator, lun)
-}
-
-impl Values {
-    /// The value of a call, if its status is GOOD.
-    pub fn good<T>(&self, value: T) -> Result<T, Fault> {
-        match self.status {
-            GOOD => Ok(value),
-            CHECK_CONDITION => Err(Fault::Check(crate::Sense(self.sense))),
-            _ => Err(Fault::Refused(crate::Refusal::numbered(self.number))),
-        }
-    }
 }
