@@ -25,7 +25,9 @@
  * one number (0 to 255); oberkosz_route takes all eight bytes as one big-endian number.
  * Initiators and units are numbered from 0 in setup order.
  *
- * The library is for x86-64 with the System V calling convention.
+ * WHAT IT NEEDS. x86-64 with the System V calling convention; of the C library memcpy and
+ * memset alone; and stack, which is measured and not proved: some 100 KB for a command
+ * (MANAGE ACL takes the most), some 30 KB for oberkosz_route_standing.
  */
 #ifndef OBERKOSZ_H
 #define OBERKOSZ_H
