@@ -1,3 +1,4 @@
+-- What the setup starts goes out.
 use mathlib.Core.Path.{ap, _∙_}
 use borrow.Author.Needs.{needs}
 use Rattle.shelf.specs.Crossing.{startedOut}

@@ -1,3 +1,4 @@
+-- Its two names cross, and the rest is as it was.
 use borrow.Author.Needs.{needs}
 use Rattle.shelf.proofs.crossing.ace_in.Statement.{statement}
 use Rattle.shelf.proofs.crossing.ace_in.Tie as tie

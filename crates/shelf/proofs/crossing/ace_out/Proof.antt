@@ -1,3 +1,4 @@
+-- Its two names cross, and the rest is as it was.
 use borrow.Author.Needs.{needs}
 use Rattle.shelf.proofs.crossing.ace_out.Statement.{statement}
 use Rattle.shelf.proofs.crossing.ace_out.Tie as tie

@@ -1,3 +1,4 @@
+-- The byte 0 names the first variant; the test is the definition's.
 use borrow.Author.Tests.{eq-eqb, ne-eqb}
 use Rattle.shelf.proofs.crossing.extent_of.Statement.{statement}
 use Rattle.shelf.proofs.crossing.extent_of.Tie as tie

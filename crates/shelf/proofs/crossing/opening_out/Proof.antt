@@ -1,3 +1,4 @@
+-- Each part crosses by itself.
 use borrow.Author.Needs.{needs}
 use Rattle.shelf.proofs.crossing.opening_out.Statement.{statement}
 use Rattle.shelf.proofs.crossing.opening_out.Tie as tie

@@ -1,3 +1,4 @@
+-- Each part crosses by itself.
 use borrow.Author.Needs.{needs}
 use Rattle.shelf.proofs.crossing.refused_shelf.Statement.{statement}
 use Rattle.shelf.proofs.crossing.refused_shelf.Tie as tie

@@ -1,3 +1,4 @@
+-- The ACEs cross, and the rest is as it was.
 use borrow.Author.Needs.{needs}
 use Rattle.shelf.specs.Crossing.{shelfOf}
 use Rattle.shelf.proofs.crossing.shelf_of.Statement.{statement}

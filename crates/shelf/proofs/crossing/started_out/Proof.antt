@@ -1,3 +1,4 @@
+-- Each part crosses by itself.
 use borrow.Author.Needs.{needs}
 use Rattle.shelf.proofs.crossing.started_out.Statement.{statement}
 use Rattle.shelf.proofs.crossing.started_out.Tie as tie

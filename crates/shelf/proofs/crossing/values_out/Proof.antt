@@ -1,3 +1,4 @@
+-- The status crosses, and the rest is as it was.
 use borrow.Author.Needs.{needs}
 use Rattle.shelf.proofs.crossing.values_out.Statement.{statement}
 use Rattle.shelf.proofs.crossing.values_out.Tie as tie

@@ -1,3 +1,4 @@
+-- The tests are those of the definition, in its order.
 use borrow.Author.Tests.{le-leb, lt-leb}
 use Rattle.shelf.proofs.crossing.well_ace.Statement.{statement}
 use Rattle.shelf.proofs.crossing.well_ace.Tie as tie
