@@ -30,7 +30,7 @@ fuzz:
 bench:
 	tests/bench
 	tests/bench-journal
-	tests/bench-library
+	tests/bench-stack
 
 fmt:
 	rt fmt

@@ -1,11 +1,12 @@
 // The coordinator for C. include/oberkosz.h declares these functions.
 ghost use mathlib.Core.Path.{_≡_};
 ghost use mathlib.Core.Bool.{true};
-ghost use lib.ListN.{length};
+ghost use lib.ListN.{length, getD};
 ghost use Rattle.paper.specs.Fresh.{started};
 ghost use Rattle.paper.specs.Standing.{standing};
 ghost use Rattle.paper.specs.Outcomes.{decideCommand, decideLink, decideReach, routed, openingOf};
 ghost use Rattle.shelf.specs.Crossing.{coordinatorIn, startedOut, openingOut, callOutcome, callBuffer, routeOpening};
+ghost use Rattle.shelf.specs.Layout.{layout};
 
 mod crossing;
 pub mod layout;
@@ -88,4 +89,71 @@ pub extern "C" fn oberkosz_route_standing(s: Shelf, initiator: usize, lun: u64) 
 {
     let c = crossing::coordinator_in(s);
     crossing::opening_out(questions::route_standing(c, initiator, lun))
+}
+
+// The sizes and offsets of what crosses, as include/oberkosz.h has them: by it a program sees that header and library belong together.
+#[no_mangle]
+pub extern "C" fn oberkosz_layout(entry: usize) -> usize
+    ensures { λ r. ⌜ r ≡ getD layout entry 0 ⌝ }
+{
+    let numbers: [usize; 54] = [
+        4,
+        0,
+        2,
+        104,
+        0,
+        1,
+        2,
+        32,
+        40,
+        3336,
+        0,
+        8,
+        16,
+        0,
+        8,
+        9,
+        10,
+        520,
+        0,
+        8,
+        16,
+        0,
+        2,
+        8,
+        520,
+        0,
+        8,
+        792,
+        0,
+        8,
+        392,
+        72,
+        0,
+        8,
+        5256,
+        0,
+        4,
+        8,
+        16,
+        808,
+        880,
+        4216,
+        4736,
+        20,
+        0,
+        1,
+        2,
+        5288,
+        0,
+        5256,
+        5280,
+        21,
+        0,
+        1,
+    ];
+    if entry < 54 {
+        return numbers[entry];
+    }
+    0
 }
