@@ -19,7 +19,7 @@
  *
  * WHAT THE CALLER OWES. That which C asks of every call: a pointer with a length points to so
  * many bytes; it is not null, even if the length is 0; a lent reply buffer overlaps nothing
- * else that is handed in; a bool is 0 or 1.
+ * else that is handed in.
  *
  * LUNs. "A LUN is 00h, nn, then six 00h". In a state a LUN is kept as its first two bytes, as
  * one number (0 to 255); oberkosz_route takes all eight bytes as one big-endian number.
@@ -79,7 +79,7 @@ enum {
      * a LUN or unit twice in one ACE, a list without LUACDs, a malformed LUN or identifier, a
      * zero token, a reference to an absent unit, initiator, token or enrolled AccessID, a
      * clash, DLgeneration not 0 disabled or 1 enabled, or an ACE, token or nonzero key while
-     * disabled"; or kind or extent of an ACE, in use or not, is neither 0 nor 1 */
+     * disabled"; or enabled, or kind or extent of an ACE, in use or not, is neither 0 nor 1 */
     OBERKOSZ_BAD_STATE = 2,
     /* "no such initiator" */
     OBERKOSZ_NO_INITIATOR = 3,
@@ -212,7 +212,7 @@ struct oberkosz_units {
 };
 
 struct oberkosz_state {
-    bool enabled;
+    uint8_t enabled;     /* 0 disabled, 1 enabled */
     uint32_t generation; /* DLgeneration: 0 disabled, 1 enabled */
     uint64_t key;
     struct oberkosz_initiators initiators;

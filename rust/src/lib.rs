@@ -123,7 +123,7 @@ impl Default for Coordinator {
 impl fmt::Debug for Coordinator {
     fn fmt(&self, f: &mut fmt::Formatter) -> fmt::Result {
         f.debug_struct("Coordinator")
-            .field("enabled", &self.0.enabled)
+            .field("enabled", &(self.0.enabled == 1))
             .field("initiators", &self.0.initiators.count)
             .field("units", &self.0.units.count)
             .field("aces", &self.0.acl.count)

@@ -76,7 +76,7 @@ pub struct Units {
 #[repr(C)]
 #[derive(Clone, Copy, PartialEq, Eq)]
 pub struct State {
-    pub enabled: bool,
+    pub enabled: u8,
     pub generation: u32,
     pub key: u64,
     pub initiators: Initiators,

@@ -118,7 +118,7 @@ static void fresh(void)
     state = o.state;
     HOLDS(good(o.values));
     HOLDS(o.delivered == 0);
-    HOLDS(!state.enabled && state.generation == 0 && state.key == 0);
+    HOLDS(state.enabled == 0 && state.generation == 0 && state.key == 0);
     HOLDS(state.initiators.count == OBERKOSZ_INITIATORS);
     HOLDS(memcmp(state.initiators.ids, ids, sizeof ids) == 0);
     HOLDS(all_zero(state.initiators.enrolments, sizeof state.initiators.enrolments));
@@ -220,7 +220,7 @@ static void managed(void)
     for (size_t ace = 0; ace < 16; ace++)
         n += put_access(list + n, ace);
     HOLDS(good(out(0, OBERKOSZ_OUT_MANAGE_ACL, list, n).values));
-    HOLDS(state.enabled && state.generation == 1 && state.key == KEY);
+    HOLDS(state.enabled == 1 && state.generation == 1 && state.key == KEY);
     HOLDS(state.acl.count == OBERKOSZ_ACES);
     for (size_t k = 0; k < 16; k++) {
         held_transport(k);
@@ -361,7 +361,7 @@ static void ended(void)
     uint8_t disable[12] = { 0 };
     put64(disable + 4, KEY);
     HOLDS(good(out(0, OBERKOSZ_OUT_DISABLE, disable, sizeof disable).values));
-    HOLDS(!state.enabled && state.generation == 0 && state.key == 0);
+    HOLDS(state.enabled == 0 && state.generation == 0 && state.key == 0);
     HOLDS(state.acl.count == 0 && state.tokens.count == 0 && state.proxies.count == 0);
 }
 
@@ -416,7 +416,8 @@ static void longest(void)
 
 static void spoiled(void)
 {
-    SPOILED(enabled, false);
+    SPOILED(enabled, 0);
+    SPOILED(enabled, 2);
     SPOILED(generation, 2);
     SPOILED(initiators.count, OBERKOSZ_INITIATORS + 1);
     SPOILED(initiators.ids[ID * 15], 2);
@@ -444,6 +445,7 @@ static void spoiled(void)
 static void spoiled_unused(void)
 {
     fresh();
+    SPOILED(enabled, 2);
     SPOILED(key, 1);
     SPOILED(acl.items[31].kind, 2);
     SPOILED(acl.items[31].extent, 0xFF);

@@ -2,7 +2,7 @@
 use Prim.Native.Nat.{ℕ, zero, suc}
 use mathlib.Core.Path.{_≡_, refl, ap, _∙_}
 use mathlib.Core.List.{List, [], _∷_, map}
-use mathlib.Core.Bool.{true}
+use mathlib.Core.Bool.{Bool, true, false}
 use native.Mathlib.Omega.{arith}
 use borrow.Author.Tests.{leb-true}
 use Rattle.lists.specs.Lists.{all}
@@ -18,7 +18,7 @@ use Rattle.paper.specs.declared.state.Extent.the-variants.{Listed, Everything}
 use Rattle.paper.specs.declared.state.Ace.{Ace}
 use Rattle.paper.specs.declared.state.Coordinator.{Coordinator}
 use Rattle.paper.specs.declared.answers.Answer.the-variants.{Good}
-use Rattle.shelf.specs.Crossing.{namesOne, kindOf, extentOf, aceIn, wellAce, wellNamed, coordinatorIn, kindByte, extentByte, aceOut, shelfOf, statusByte, callOutcome, callBuffer}
+use Rattle.shelf.specs.Crossing.{namesOne, kindOf, extentOf, enabledOf, aceIn, wellAce, wellNamed, coordinatorIn, kindByte, extentByte, enabledByte, aceOut, shelfOf, statusByte, callOutcome, callBuffer}
 use Rattle.shelf.specs.declared.layout.ShelfAce.{ShelfAce}
 use Rattle.shelf.specs.declared.layout.Shelf.{Shelf}
 
@@ -31,13 +31,17 @@ extent-in-out : (e : Extent) → extentOf (extentByte e) ≡ e
 extent-in-out Listed = refl
 extent-in-out Everything = refl
 
+enabled-in-out : (b : Bool) → enabledOf (enabledByte b) ≡ b
+enabled-in-out true = refl
+enabled-in-out false = refl
+
 aces-in-out : (l : List Ace) → map aceIn (map aceOut l) ≡ l
 aces-in-out [] = refl
 aces-in-out (a ∷ l) = rw (kind-in-out (a .kind), extent-in-out (a .extent), aces-in-out l)
 
 pub in-out : (c : Coordinator) → coordinatorIn (shelfOf c) ≡ c
 unfolding coordinatorIn shelfOf
-in-out c = rw (aces-in-out (c .acl .items))
+in-out c = rw (enabled-in-out (c .enabled), aces-in-out (c .acl .items))
 
 kind-named : (k : IdType) → namesOne (kindByte k) ≡ true
 kind-named AccessId = refl
@@ -47,11 +51,16 @@ extent-named : (e : Extent) → namesOne (extentByte e) ≡ true
 extent-named Listed = refl
 extent-named Everything = refl
 
+enabled-named : (b : Bool) → namesOne (enabledByte b) ≡ true
+enabled-named true = refl
+enabled-named false = refl
+
 pub named-out : (c : Coordinator) → wellNamed (shelfOf c) ≡ true
 unfolding wellNamed shelfOf
 named-out c =
-    all-map aceOut wellAce (c .acl .items)
-    ∙ in-all _ (c .acl .items) (λ a m. rw (kind-named (a .kind), extent-named (a .extent)))
+    rw (enabled-named (c .enabled))
+    (all-map aceOut wellAce (c .acl .items)
+    ∙ in-all _ (c .acl .items) (λ a m. rw (kind-named (a .kind), extent-named (a .extent))))
 
 -- ---- in and out
 kind-out-in : (b : ℕ) → namesOne b ≡ true → kindByte (kindOf b) ≡ b
@@ -64,6 +73,11 @@ extent-out-in zero h = refl
 extent-out-in (suc zero) h = refl
 extent-out-in (suc (suc b)) h = absurd (omega (arith, leb-true (suc (suc b)) 1 h))
 
+enabled-out-in : (b : ℕ) → namesOne b ≡ true → enabledByte (enabledOf b) ≡ b
+enabled-out-in zero h = refl
+enabled-out-in (suc zero) h = refl
+enabled-out-in (suc (suc b)) h = absurd (omega (arith, leb-true (suc (suc b)) 1 h))
+
 aces-out-in : (l : List ShelfAce) → all wellAce l ≡ true → map aceOut (map aceIn l) ≡ l
 unfolding all
 aces-out-in [] h = refl
@@ -74,7 +88,9 @@ aces-out-in (a ∷ l) h =
 
 pub out-in : (s : Shelf) → wellNamed s ≡ true → shelfOf (coordinatorIn s) ≡ s
 unfolding wellNamed coordinatorIn shelfOf
-out-in s h = rw (aces-out-in (s .acl .items) h)
+out-in s h =
+    let named = and-true (namesOne (s .enabled)) (all wellAce (s .acl .items)) h in
+    rw (enabled-out-in (s .enabled) (named .0), aces-out-in (s .acl .items) (named .1))
 
 -- ---- "a refusal gives the fixed status, sense or number and changes neither the state nor a byte of the reply buffer."
 pub record Untouched (s : Shelf) (decide : Coordinator → Decision) (buffer : List ℕ) : Type 0 where

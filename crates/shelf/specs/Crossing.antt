@@ -1,7 +1,7 @@
--- What crosses to C and back: the coordinator with a byte where it has an enum. A state in which such a byte is none of the two that name a variant is no coordinator: it "breaks a standing rule" (refusal 2).
+-- What crosses to C and back: the coordinator with a byte where it has an enum or a bool. A state in which such a byte is none of the two that name something is no coordinator: it "breaks a standing rule" (refusal 2).
 use Prim.Native.Nat.{ℕ}
 use mathlib.Core.List.{List, map}
-use mathlib.Core.Bool.{Bool, cond, _&&_}
+use mathlib.Core.Bool.{Bool, true, false, cond, _&&_}
 use lib.Dec.{eqb, leb}
 use Rattle.lists.specs.Lists.{all}
 use Rattle.paper.specs.Answers.{valuesOf}
@@ -28,7 +28,7 @@ use Rattle.shelf.specs.declared.layout.ShelfValues.{ShelfValues}
 use Rattle.shelf.specs.declared.layout.ShelfOutcome.{ShelfOutcome}
 use Rattle.shelf.specs.declared.layout.ShelfOpening.{ShelfOpening}
 
--- ---- in: a byte names a variant
+-- ---- in: a byte names a variant, or whether access controls are on
 abbrev pub namesOne : ℕ → Bool
 namesOne b = leb b 1
 
@@ -38,6 +38,9 @@ kindOf b = cond (eqb b 0) AccessId TransportId
 abbrev pub extentOf : ℕ → Extent
 extentOf b = cond (eqb b 0) Listed Everything
 
+abbrev pub enabledOf : ℕ → Bool
+enabledOf b = cond (eqb b 0) false true
+
 abbrev pub aceIn : ShelfAce → Ace
 aceIn a =
     record { kind = kindOf (a .kind); extent = extentOf (a .extent); id = a .id; count = a .count; luacds = a .luacds }
@@ -46,12 +49,12 @@ abbrev pub wellAce : ShelfAce → Bool
 wellAce a = namesOne (a .kind) && namesOne (a .extent)
 
 unfoldable pub wellNamed : Shelf → Bool
-wellNamed s = all wellAce (s .acl .items)
+wellNamed s = namesOne (s .enabled) && all wellAce (s .acl .items)
 
 unfoldable pub coordinatorIn : Shelf → Coordinator
 coordinatorIn s =
     record {
-      enabled = s .enabled;
+      enabled = enabledOf (s .enabled);
       generation = s .generation;
       key = s .key;
       initiators = s .initiators;
@@ -70,6 +73,10 @@ abbrev pub extentByte : Extent → ℕ
 extentByte Listed = 0
 extentByte Everything = 1
 
+abbrev pub enabledByte : Bool → ℕ
+enabledByte false = 0
+enabledByte true = 1
+
 abbrev pub aceOut : Ace → ShelfAce
 aceOut a =
     record { kind = kindByte (a .kind); extent = extentByte (a .extent); id = a .id; count = a .count; luacds = a .luacds }
@@ -77,7 +84,7 @@ aceOut a =
 unfoldable pub shelfOf : Coordinator → Shelf
 shelfOf c =
     record {
-      enabled = c .enabled;
+      enabled = enabledByte (c .enabled);
       generation = c .generation;
       key = c .key;
       initiators = c .initiators;

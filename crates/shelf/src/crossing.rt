@@ -1,7 +1,7 @@
 // From what C hands in to the coordinator, and back.
 ghost use mathlib.Core.Path.{_≡_};
 ghost use mathlib.Core.List.{map};
-ghost use Rattle.shelf.specs.Crossing.{kindOf, extentOf, aceIn, wellAce, wellNamed, coordinatorIn, kindByte, extentByte, aceOut, shelfOf, statusByte, valuesOut, outcomeOut, startedOut, unitOpened, openingOut, refusedShelf};
+ghost use Rattle.shelf.specs.Crossing.{kindOf, extentOf, enabledOf, aceIn, wellAce, wellNamed, coordinatorIn, kindByte, extentByte, enabledByte, aceOut, shelfOf, statusByte, valuesOut, outcomeOut, startedOut, unitOpened, openingOut, refusedShelf};
 use crate::layout::Shelf;
 use crate::layout::ShelfAce;
 use crate::layout::ShelfAcl;
@@ -43,6 +43,15 @@ fn extent_of(b: u8) -> Extent
     Extent::Everything
 }
 
+fn enabled_of(b: u8) -> bool
+    ensures { λ r. ⌜ r ≡ enabledOf b ⌝ }
+{
+    if b == 0 {
+        return false;
+    }
+    true
+}
+
 fn ace_in(a: ShelfAce) -> Ace
     ensures { λ r. ⌜ r ≡ aceIn a ⌝ }
 {
@@ -71,6 +80,9 @@ fn well_ace(a: ShelfAce) -> bool
 pub fn well_named(s: Shelf) -> bool
     ensures { λ r. ⌜ r ≡ wellNamed s ⌝ }
 {
+    if 1 < s.enabled {
+        return false;
+    }
     let items = s.acl.items;
     let mut k = 0;
     while k < 32 {
@@ -105,7 +117,7 @@ pub fn coordinator_in(s: Shelf) -> Coordinator
     let proxies = s.proxies;
     let aces = s.acl.items;
     Coordinator {
-        enabled: s.enabled,
+        enabled: enabled_of(s.enabled),
         generation: s.generation,
         key: s.key,
         initiators: initiators,
@@ -135,6 +147,15 @@ fn extent_byte(e: Extent) -> u8
         Extent::Listed => 0,
         Extent::Everything => 1,
     }
+}
+
+fn enabled_byte(on: bool) -> u8
+    ensures { λ r. ⌜ r ≡ enabledByte on ⌝ }
+{
+    if on {
+        return 1;
+    }
+    0
 }
 
 fn ace_out(a: Ace) -> ShelfAce
@@ -185,7 +206,7 @@ fn shelf_of(c: Coordinator) -> Shelf
     let proxies = c.proxies;
     let aces = c.acl.items;
     Shelf {
-        enabled: c.enabled,
+        enabled: enabled_byte(c.enabled),
         generation: c.generation,
         key: c.key,
         initiators: initiators,

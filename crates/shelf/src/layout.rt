@@ -1,4 +1,4 @@
-// What crosses to C, by value and with C's layout. It is the coordinator of crates/paper with a byte where that has an enum, since no enum crosses.
+// What crosses to C, by value and with C's layout. It is the coordinator of crates/paper with a byte where that has an enum, since no enum crosses, or a bool, since C can hand in one that is neither false nor true.
 use paper::state::ID_SIZE;
 use paper::state::Initiators;
 use paper::state::Luacd;
@@ -22,9 +22,10 @@ pub struct ShelfAcl {
     pub items: [ShelfAce; 32],
 }
 
+// Access controls are 0 disabled, 1 enabled.
 #[repr(C)]
 pub struct Shelf {
-    pub enabled: bool,
+    pub enabled: u8,
     pub generation: u32,
     pub key: u64,
     pub initiators: Initiators,

@@ -1,4 +1,4 @@
--- The ACEs cross, and the rest is as it was.
+-- The ACEs cross and whether it is enabled, and the rest is as it was.
 use borrow.Author.Needs.{needs}
 use Rattle.shelf.specs.Crossing.{coordinatorIn}
 use Rattle.shelf.proofs.crossing.coordinator_in.Statement.{statement}
@@ -10,4 +10,5 @@ coordinator-in-spec =
     tie.close
     (tie.spec
     (λ c κs. search needs)
-    (λ c. rw (c .aces-in .ensures)))
+    (λ c κs. search needs)
+    (λ c. rw (c .before .enabled-of .ensures, c .aces-in .ensures)))

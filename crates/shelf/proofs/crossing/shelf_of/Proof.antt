@@ -1,4 +1,4 @@
--- The ACEs cross, and the rest is as it was.
+-- The ACEs cross and whether it is enabled, and the rest is as it was.
 use borrow.Author.Needs.{needs}
 use Rattle.shelf.specs.Crossing.{shelfOf}
 use Rattle.shelf.proofs.crossing.shelf_of.Statement.{statement}
@@ -10,4 +10,5 @@ shelf-of-spec =
     tie.close
     (tie.spec
     (λ c κs. search needs)
-    (λ c. rw (c .aces-out .ensures)))
+    (λ c κs. search needs)
+    (λ c. rw (c .before .enabled-byte .ensures, c .aces-out .ensures)))
