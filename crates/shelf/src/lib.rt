@@ -91,69 +91,65 @@ pub extern "C" fn oberkosz_route_standing(s: Shelf, initiator: usize, lun: u64) 
     crossing::opening_out(questions::route_standing(c, initiator, lun))
 }
 
+// The layout of each struct that crosses, in bytes: its size, then where its fields stand.
+// lun, unit
+const LUACD: [usize; 3] = [4, 0, 2];
+
+// kind, extent, id, count, luacds
+const ACE: [usize; 6] = [104, 0, 1, 2, 32, 40];
+
+// count, items
+const ACL: [usize; 3] = [3336, 0, 8];
+
+// number, unit, requester, lun
+const TOKEN: [usize; 5] = [16, 0, 8, 9, 10];
+
+// count, items
+const TOKENS: [usize; 3] = [520, 0, 8];
+
+// initiator, lun, token
+const PROXY_LUN: [usize; 4] = [16, 0, 2, 8];
+
+// count, items
+const PROXY_LUNS: [usize; 3] = [520, 0, 8];
+
+// count, ids, enrolments
+const INITIATORS: [usize; 4] = [792, 0, 8, 392];
+
+// count, luns
+const UNITS: [usize; 3] = [72, 0, 8];
+
+// enabled, generation, key, initiators, units, acl, tokens, proxies
+const STATE: [usize; 9] = [5256, 0, 4, 8, 16, 808, 880, 4216, 4736];
+
+// status, number, sense
+const VALUES: [usize; 4] = [20, 0, 1, 2];
+
+// state, values, delivered
+const OUTCOME: [usize; 4] = [5288, 0, 5256, 5280];
+
+// unit, values
+const OPENING: [usize; 3] = [21, 0, 1];
+
 // The sizes and offsets of what crosses, as include/oberkosz.h has them: by it a program sees that header and library belong together.
 #[no_mangle]
 pub extern "C" fn oberkosz_layout(entry: usize) -> usize
     ensures { λ r. ⌜ r ≡ getD layout entry 0 ⌝ }
 {
-    let numbers: [usize; 54] = [
-        4,
-        0,
-        2,
-        104,
-        0,
-        1,
-        2,
-        32,
-        40,
-        3336,
-        0,
-        8,
-        16,
-        0,
-        8,
-        9,
-        10,
-        520,
-        0,
-        8,
-        16,
-        0,
-        2,
-        8,
-        520,
-        0,
-        8,
-        792,
-        0,
-        8,
-        392,
-        72,
-        0,
-        8,
-        5256,
-        0,
-        4,
-        8,
-        16,
-        808,
-        880,
-        4216,
-        4736,
-        20,
-        0,
-        1,
-        2,
-        5288,
-        0,
-        5256,
-        5280,
-        21,
-        0,
-        1,
-    ];
-    if entry < 54 {
-        return numbers[entry];
+    match entry {
+        0..=2 => LUACD[entry],
+        3..=8 => ACE[entry - 3],
+        9..=11 => ACL[entry - 9],
+        12..=16 => TOKEN[entry - 12],
+        17..=19 => TOKENS[entry - 17],
+        20..=23 => PROXY_LUN[entry - 20],
+        24..=26 => PROXY_LUNS[entry - 24],
+        27..=30 => INITIATORS[entry - 27],
+        31..=33 => UNITS[entry - 31],
+        34..=42 => STATE[entry - 34],
+        43..=46 => VALUES[entry - 43],
+        47..=50 => OUTCOME[entry - 47],
+        51..=53 => OPENING[entry - 51],
+        _ => 0,
     }
-    0
 }
