@@ -137,6 +137,9 @@ impl Coordinator {
     /// A new coordinator: the initiators' TransportIDs one after the other, 24 bytes each, and
     /// the units' default LUNs, 8 bytes each. "A fresh coordinator is disabled and starts with
     /// every table empty."
+    ///
+    /// # Panics
+    /// If the library that is linked has another layout than this crate.
     pub fn setup(ids: &[u8], luns: &[u8]) -> Result<Coordinator, Fault> {
         let outcome = raw::setup(ids, luns);
         outcome.values.good(Coordinator(outcome.state))

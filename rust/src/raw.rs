@@ -1,5 +1,7 @@
 //! What crosses to the library, as include/oberkosz.h has it, and the calls; nothing else.
 
+use std::mem::{offset_of, size_of};
+
 pub const GOOD: u8 = 0x00;
 pub const CHECK_CONDITION: u8 = 0x02;
 
@@ -107,6 +109,32 @@ pub struct Opening {
     pub values: Values,
 }
 
+macro_rules! layout {
+    ($($name:literal $type:ident { $($field:ident)* })*) => {
+        [$(
+            ($name, size_of::<$type>()),
+            $((concat!($name, "_", stringify!($field)), offset_of!($type, $field)),)*
+        )*]
+    };
+}
+
+/// The size of each struct and where its fields stand, in the order of the header's table.
+pub const LAYOUT: [(&str, usize); 54] = layout! {
+    "luacd" Luacd { lun unit }
+    "ace" Ace { kind extent id count luacds }
+    "acl" Acl { count items }
+    "token" Token { number unit requester lun }
+    "tokens" Tokens { count items }
+    "proxy_lun" ProxyLun { initiator lun token }
+    "proxy_luns" ProxyLuns { count items }
+    "initiators" Initiators { count ids enrolments }
+    "units" Units { count luns }
+    "state" State { enabled generation key initiators units acl tokens proxies }
+    "values" Values { status number sense }
+    "outcome" Outcome { state values delivered }
+    "opening" Opening { unit values }
+};
+
 mod calls {
     use super::{Opening, Outcome, State};
 
@@ -132,6 +160,7 @@ mod calls {
         pub fn oberkosz_reach(state: State, reply: *mut u8, reply_bytes: usize) -> Outcome;
         pub fn oberkosz_route(state: State, initiator: usize, lun: u64) -> Opening;
         pub fn oberkosz_route_standing(state: State, initiator: usize, lun: u64) -> Opening;
+        pub fn oberkosz_layout(entry: usize) -> usize;
     }
 }
 
@@ -139,7 +168,19 @@ mod calls {
 // behind it, and a `&mut` one overlaps nothing else that is handed in. The library is proved
 // to answer every such call, to write to the reply alone and to keep no pointer.
 
+/// Whether the library has these numbers, and no more.
+pub fn fits(layout: &[(&str, usize)]) -> bool {
+    let has = |entry| unsafe { calls::oberkosz_layout(entry) };
+    let same = |(entry, (_, number)): (usize, &(&str, usize))| has(entry) == *number;
+    layout.iter().enumerate().all(same) && has(layout.len()) == 0
+}
+
+/// Every state comes from here, so that none crosses to a library with another layout.
 pub fn setup(ids: &[u8], luns: &[u8]) -> Outcome {
+    assert!(
+        fits(&LAYOUT),
+        "the library's sizes and offsets are not those of this crate"
+    );
     unsafe { calls::oberkosz_setup(ids.as_ptr(), ids.len(), luns.as_ptr(), luns.len()) }
 }
 

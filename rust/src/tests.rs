@@ -1,5 +1,4 @@
 use crate::{raw, Coordinator, Fault, Refusal, REACH_BYTES, REPORT_BYTES};
-use std::mem::{offset_of, size_of};
 
 const HEADER: &str = include_str!("../../include/oberkosz.h");
 const LUN_1: u64 = 0x0001_0000_0000_0000;
@@ -19,36 +18,22 @@ fn defined(prefix: &str) -> Vec<(String, usize)> {
         .collect()
 }
 
-macro_rules! layout {
-    ($($name:literal $type:ident { $($field:ident)* })*) => {
-        vec![$(
-            ($name.to_string(), size_of::<raw::$type>()),
-            $((
-                format!("{}_{}", $name, stringify!($field).to_uppercase()),
-                offset_of!(raw::$type, $field),
-            ),)*
-        )*]
-    };
+#[test]
+fn the_layout_is_the_headers() {
+    let here = raw::LAYOUT.map(|(name, number)| (name.to_uppercase(), number));
+    assert_eq!(here.to_vec(), defined("OBERKOSZ_LAYOUT_"));
 }
 
 #[test]
-fn the_layout_is_the_headers() {
-    let here = layout! {
-        "LUACD" Luacd { lun unit }
-        "ACE" Ace { kind extent id count luacds }
-        "ACL" Acl { count items }
-        "TOKEN" Token { number unit requester lun }
-        "TOKENS" Tokens { count items }
-        "PROXY_LUN" ProxyLun { initiator lun token }
-        "PROXY_LUNS" ProxyLuns { count items }
-        "INITIATORS" Initiators { count ids enrolments }
-        "UNITS" Units { count luns }
-        "STATE" State { enabled generation key initiators units acl tokens proxies }
-        "VALUES" Values { status number sense }
-        "OUTCOME" Outcome { state values delivered }
-        "OPENING" Opening { unit values }
-    };
-    assert_eq!(here, defined("OBERKOSZ_LAYOUT_"));
+fn a_library_with_another_layout_does_not_fit() {
+    assert!(raw::fits(&raw::LAYOUT));
+    assert!(!raw::fits(&raw::LAYOUT[1..]));
+    assert!(!raw::fits(&raw::LAYOUT[..53]));
+    for entry in 0..raw::LAYOUT.len() {
+        let mut other = raw::LAYOUT;
+        other[entry].1 += 1;
+        assert!(!raw::fits(&other), "{}", other[entry].0);
+    }
 }
 
 #[test]
