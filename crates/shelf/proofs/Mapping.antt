@@ -5,10 +5,12 @@ use mathlib.Core.List.{List, map}
 use mathlib.Core.Bool.{Bool}
 use native.Mathlib.Omega.{arith}
 use native.Mathlib.Numerals.{add-one}
+use borrow.Author.Needs.{needs}
 use borrow.Table.Elements.{map-app}
 use lib.ListN.{length, take, getD, set, length-set}
 use lib.Seq.{take-all, take-suc, take-suc-set}
 use Rattle.lists.specs.Lists.{all}
+use Rattle.lists.proofs.Walk.{length-mapped}
 use Rattle.lists.proofs.Checks.{Each}
 
 pub record Mapped {A B : Type 0} (f : A → B) (from : List A) (size k : ℕ) (items : List B) : Type 0 where
@@ -32,6 +34,9 @@ module _ {A B : Type 0} {f : A → B} {from : List A} {size k : ℕ} {items : Li
   pub map-end : size ≤ k → items ≡ map f from
   map-end h =
       sym (take-all k items (omega (arith, s .room))) ∙ (s .made ∙ ap (map f) (take-all k from (omega (arith, s .long))))
+
+-- what a loop that makes all entries asks; `length-mapped` is for the array that it makes them of
+pub ruleset mapping = (map-none, map-more, map-end, length-mapped, needs)
 
 -- a table all of which is looked at
 pub all-entries : {A : Type 0} {p : A → Bool} {l : List A} {size i : ℕ} {b : Bool} → Each p l size size size i → b ≡ all p (take size l) → b ≡ all p l

@@ -32,14 +32,18 @@ use Rattle.shelf.specs.declared.layout.ShelfOpening.{ShelfOpening}
 abbrev pub namesOne : ℕ → Bool
 namesOne b = leb b 1
 
+-- the two that a byte names: 0 the first
+abbrev pub oneOf : {A : Type 0} → A → A → ℕ → A
+oneOf x y b = cond (eqb b 0) x y
+
 abbrev pub kindOf : ℕ → IdType
-kindOf b = cond (eqb b 0) AccessId TransportId
+kindOf b = oneOf AccessId TransportId b
 
 abbrev pub extentOf : ℕ → Extent
-extentOf b = cond (eqb b 0) Listed Everything
+extentOf b = oneOf Listed Everything b
 
 abbrev pub enabledOf : ℕ → Bool
-enabledOf b = cond (eqb b 0) false true
+enabledOf b = oneOf false true b
 
 abbrev pub aceIn : ShelfAce → Ace
 aceIn a =
