@@ -29,8 +29,9 @@ fuzz:
 
 bench:
 	tests/bench
+	tests/bench-growth
 	tests/bench-journal
-	tests/bench-stack
+	tests/bench-c
 
 fmt:
 	rt fmt

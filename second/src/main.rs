@@ -2,7 +2,7 @@
 
 use second::{acl, audit, bench, cover, journal, make};
 use std::fs::File;
-use std::io::{self, BufRead, BufReader, BufWriter};
+use std::io::{self, BufRead, BufReader, BufWriter, Write};
 use std::process::ExitCode;
 
 const USAGE: &str = "\
@@ -17,6 +17,8 @@ second cover [--strict] [JOURNAL ..] what journals cover (standard input, if non
 second bench calls|copies N < JOURNAL
                                      the last statement N times on a copy of the state before
                                      it, or N copies alone, for instructions to be counted
+second bench time N < JOURNAL        the nanoseconds of the last statement, the least of N
+                                     batches of eight
 ";
 
 fn main() -> ExitCode {
@@ -45,15 +47,15 @@ fn run(words: &[&str]) -> io::Result<ExitCode> {
             Some(order) => make::make(&order, &mut output)?,
             None => return Ok(usage("make: expected SEED RUNS [THEME]")),
         },
-        ["bench", work @ ("calls" | "copies"), times] => {
+        ["bench", work @ ("calls" | "copies" | "time"), times] => {
             let Ok(times) = times.parse() else {
                 return Ok(usage("bench: expected a number of times"));
             };
-            let work = match *work {
-                "calls" => bench::Work::Calls,
-                _ => bench::Work::Copies,
-            };
-            bench::bench(work, times, &mut input())?;
+            match *work {
+                "calls" => bench::bench(bench::Work::Calls, times, &mut input())?,
+                "copies" => bench::bench(bench::Work::Copies, times, &mut input())?,
+                _ => writeln!(output, "{}", bench::time(times, &mut input())?)?,
+            }
         }
         ["cover", "--strict", files @ ..] => {
             let whole = cover::cover(journals(files)?, &mut output)?;

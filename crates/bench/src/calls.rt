@@ -1,4 +1,4 @@
-// The calls that are measured. Those that ask for a state that stands come behind the test whether it does, and are measured against that test alone.
+// The calls that are measured, each made so many times, behind one test whether the state stands.
 ghost use mathlib.Core.Path.{_≡_};
 ghost use mathlib.Core.Bool.{true};
 ghost use Rattle.paper.specs.Standing.{standing};
@@ -12,8 +12,9 @@ use paper::outcomes::Outcome;
 use paper::state::Coordinator;
 use standing::rules;
 
-// What a call is about, beside the CDB and the parameter bytes.
+// What a call is about, beside the CDB and the parameter bytes, and how many times it is made.
 pub struct Operands {
+    pub times: usize,
     pub initiator: usize,
     pub random: u64,
     pub lun: u64,
@@ -55,35 +56,47 @@ fn called_standing(
     }
 }
 
-// The same behind the test.
-fn called_behind(
+// The call that a letter names, where it is known whether the state stands; a call that tests it itself does not look at that.
+fn called(
     c: Coordinator,
+    stands: bool,
     letter: u8,
     x: Operands,
     cdb: &[u8],
     list: &[u8],
     reply: &mut [u8],
-) -> Answer {
-    if !rules::standing(c) {
-        return Answer::Refused(Refusal::BadState);
-    }
-    called_standing(c, letter, x, cdb, list, reply)
-}
-
-// The call that a letter names; another letter names none.
-pub fn called(
-    c: Coordinator,
-    letter: u8,
-    x: Operands,
-    cdb: &[u8],
-    list: &[u8],
-    reply: &mut [u8],
-) -> Answer {
+) -> Answer
+    requires { ⌜ stands ≡ standing c ⌝ }
+{
     match letter {
         b'C' => of_outcome(commanding::command(c, x.initiator, cdb, list, x.random, reply)),
         b'R' => of_opening(questions::route(c, x.initiator, x.lun)),
         b'V' => of_outcome(questions::link_event(c, x.initiator)),
         b'W' => of_outcome(questions::reach(c, reply)),
-        _ => called_behind(c, letter, x, cdb, list, reply),
+        _ => {
+            if stands {
+                return called_standing(c, letter, x, cdb, list, reply);
+            }
+            Answer::Refused(Refusal::BadState)
+        }
     }
+}
+
+// The call so many times: the last answer.
+pub fn repeated(
+    c: Coordinator,
+    letter: u8,
+    x: Operands,
+    cdb: &[u8],
+    list: &[u8],
+    reply: &mut [u8],
+) -> Answer {
+    let stands = rules::standing(c);
+    let mut answer = Answer::Good;
+    let mut k = 0;
+    while k < x.times {
+        answer = called(c, stands, letter, x, cdb, list, reply);
+        k += 1;
+    }
+    answer
 }

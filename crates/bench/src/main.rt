@@ -1,5 +1,5 @@
-// One standing rule or one call on a state that the input names, for its cost to be counted; without input two full states are tested.
-// The input: a letter for the state, a letter for the rule or the call, the initiator, and as eight bytes each the random number and the LUN; then the CDB, and then the parameter bytes.
+// One standing rule or one call on a state of the shape that the input names, so many times over, for its cost to be counted.
+// The input: eight bytes for the shape, a letter for the rule or the call, the initiator, as eight bytes each the random number and the LUN, and as four how many times; then the CDB, and then the parameter bytes.
 ghost use mathlib.Core.Path.{_≡_};
 ghost use lib.ListN.{length};
 
@@ -36,6 +36,17 @@ fn asked(c: Coordinator, rule: u8) -> bool {
     }
 }
 
+// The last answer of a rule that is asked so many times.
+fn asked_often(c: Coordinator, rule: u8, times: usize) -> bool {
+    let mut kept = true;
+    let mut k = 0;
+    while k < times {
+        kept = asked(c, rule);
+        k += 1;
+    }
+    kept
+}
+
 // Room for the longest list of one page: a header and a page of 3,275 descriptors.
 fn list_buffer() -> [u8; 65560]
     ensures { λ r. ⌜ 65560 ≡ length r ⌝ }
@@ -44,43 +55,38 @@ fn list_buffer() -> [u8; 65560]
 }
 
 // Capitals name calls, other letters rules.
-fn answered(c: Coordinator, head: &[u8; 19], cdb: &[u8], list: &[u8]) {
-    let letter = head[1];
+fn answered(c: Coordinator, head: &[u8; 30], cdb: &[u8], list: &[u8]) {
+    let letter = head[8];
+    let times = wire::be32(head, 26) as usize;
     let mut reply = io::large_buffer();
     if letter < b'A' || b'Z' < letter {
-        said::say_kept(asked(c, letter));
+        said::say_kept(asked_often(c, letter, times));
         return;
     }
     let x = Operands {
-        initiator: wire::byte(head, 2) as usize,
-        random: wire::be64(head, 3),
-        lun: wire::be64(head, 11),
+        times,
+        initiator: wire::byte(head, 9) as usize,
+        random: wire::be64(head, 10),
+        lun: wire::be64(head, 18),
     };
-    said::say_answer(calls::called(c, letter, x, cdb, list, &mut reply));
+    said::say_answer(calls::repeated(c, letter, x, cdb, list, &mut reply));
 }
 
-// Reads the operands, also for a rule, so that reading them is no part of the difference.
-fn measured(head: &[u8; 19]) {
+fn measured(head: &[u8; 30]) {
     let mut cdb = [0; 16];
     let mut list = list_buffer();
     io::read_full(STDIN_FILENO, &mut cdb);
     let n = io::read_full(STDIN_FILENO, &mut list);
-    answered(states::named(head[0]), head, &cdb, &list[..n]);
-}
-
-fn both() {
-    io::write_all(STDOUT_FILENO, b"L: ");
-    said::say_kept(rules::standing(states::named(b'L')));
-    io::write_all(STDOUT_FILENO, b"E: ");
-    said::say_kept(rules::standing(states::named(b'E')));
+    let c = states::state_of(states::shape_in(head));
+    answered(c, head, &cdb, &list[..n]);
 }
 
 fn main() {
-    let mut head = [0; 19];
+    let mut head = [0; 30];
     let n = io::read_full(STDIN_FILENO, &mut head);
-    if n == 0 {
-        both();
-    } else {
+    if n == 30 {
         measured(&head);
+    } else {
+        io::write_all(STDOUT_FILENO, b"bench: the input names no call\n");
     }
 }

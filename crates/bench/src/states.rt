@@ -1,4 +1,4 @@
-// The states that are measured. In a full one every table is full: 16 initiators, each enrolled, and 32 units, ACEs, tokens and proxy LUNs. Identifiers differ in the last byte that is compared, and in no other.
+// The states that are measured, by their shapes. Identifiers differ in the last byte that is compared, and in no other.
 ghost use Prim.Native.Nat.{_<_};
 use paper::setters;
 use paper::state;
@@ -16,6 +16,7 @@ use paper::state::Tokens;
 use paper::state::Units;
 
 // How much of each table is used. Of the initiators the first ones are enrolled, each under an AccessID of its own.
+// ACEs list so many LUACDs: those of TransportIDs from unit 0 on, those of AccessIDs from unit `upper` on. There are as many proxy LUNs as tokens.
 pub struct Shape {
     pub extent: Extent,
     pub initiators: usize,
@@ -23,60 +24,28 @@ pub struct Shape {
     pub units: usize,
     pub aces: usize,
     pub listed: usize,
+    pub upper: u8,
     pub tokens: usize,
-    pub proxies: usize,
 }
 
-// Every table full; each ACE lists 16 LUACDs, or holds everything.
-fn full(extent: Extent) -> Shape {
-    Shape {
-        extent,
-        initiators: 16,
-        enrolled: 16,
-        units: 32,
-        aces: 32,
-        listed: 16,
-        tokens: 32,
-        proxies: 32,
+fn extent_named(letter: u8) -> Extent {
+    if letter == b'E' {
+        return Extent::Everything;
     }
+    Extent::Listed
 }
 
-// Full but for one token and one proxy LUN, so that a command that adds one is GOOD.
-fn nearly_full(extent: Extent) -> Shape {
+// The shape that bytes name: E if each ACE holds everything, another letter if it lists LUACDs; then the numbers.
+pub fn shape_in(b: &[u8]) -> Shape {
     Shape {
-        extent,
-        initiators: 16,
-        enrolled: 16,
-        units: 32,
-        aces: 32,
-        listed: 16,
-        tokens: 31,
-        proxies: 31,
-    }
-}
-
-// 12 ACEs of 4 LUACDs: those of 8 TransportIDs, and those of 4 AccessIDs, under which the first initiators are enrolled.
-fn typical() -> Shape {
-    Shape {
-        extent: Extent::Listed,
-        initiators: 8,
-        enrolled: 4,
-        units: 16,
-        aces: 12,
-        listed: 4,
-        tokens: 4,
-        proxies: 4,
-    }
-}
-
-// The shape that a letter names. L: lists of 16 LUACDs, E: everything, in capitals full; T, or another letter, typical.
-fn shape_named(letter: u8) -> Shape {
-    match letter {
-        b'L' => full(Extent::Listed),
-        b'E' => full(Extent::Everything),
-        b'l' => nearly_full(Extent::Listed),
-        b'e' => nearly_full(Extent::Everything),
-        _ => typical(),
+        extent: extent_named(wire::byte(b, 0)),
+        initiators: wire::byte(b, 1) as usize,
+        enrolled: wire::byte(b, 2) as usize,
+        units: wire::byte(b, 3) as usize,
+        aces: wire::byte(b, 4) as usize,
+        listed: wire::byte(b, 5) as usize,
+        upper: wire::byte(b, 6),
+        tokens: wire::byte(b, 7) as usize,
     }
 }
 
@@ -110,24 +79,25 @@ fn transport_ace(extent: Extent, listed: usize, n: u8) -> Ace {
     }
 }
 
-// Units that no TransportID's ACE lists.
-fn upper_luacds(listed: usize) -> [Luacd; 16] {
-    if listed < 16 {
-        return luacds(8);
+// LUACDs from a unit on, if there is such a unit.
+fn upper_luacds(from: u8) -> [Luacd; 16] {
+    if from < 32 {
+        return luacds(from);
     }
-    luacds(16)
+    luacds(0)
 }
 
 // The ACE of the AccessID under which initiator n is enrolled.
-fn access_ace(extent: Extent, listed: usize, n: u8) -> Ace {
+fn access_ace(s: Shape, n: u8) -> Ace {
     let mut id = [0; 24];
+    let extent = s.extent;
     id[15] = n;
     Ace {
         kind: IdType::AccessId,
         extent,
         id,
-        count: listed,
-        luacds: upper_luacds(listed),
+        count: s.listed,
+        luacds: upper_luacds(s.upper),
     }
 }
 
@@ -139,7 +109,7 @@ fn ace_at(s: Shape, i: usize) -> Ace
     if i < s.initiators {
         return transport_ace(extent, s.listed, i as u8);
     }
-    access_ace(extent, s.listed, (i - s.initiators) as u8)
+    access_ace(s, (i - s.initiators) as u8)
 }
 
 fn aces_with(t: Acl, s: Shape, i: usize) -> Acl
@@ -185,7 +155,7 @@ fn proxies_with(t: ProxyLuns, s: Shape, i: usize) -> ProxyLuns
         lun: (n as u16) + 64,
         token: (n as u64) + 1,
     };
-    next.count = s.proxies;
+    next.count = s.tokens;
     next
 }
 
@@ -229,7 +199,7 @@ fn filled(c: Coordinator, s: Shape, i: usize) -> Coordinator
     next
 }
 
-fn state_of(s: Shape) -> Coordinator {
+pub fn state_of(s: Shape) -> Coordinator {
     let mut c = setters::with_switch(state::fresh_coordinator(), true, 1, 7);
     let mut i = 0;
     while i < 32 {
@@ -237,8 +207,4 @@ fn state_of(s: Shape) -> Coordinator {
         i += 1;
     }
     c
-}
-
-pub fn named(letter: u8) -> Coordinator {
-    state_of(shape_named(letter))
 }
