@@ -1,33 +1,29 @@
 -- What a command is answered with: decisions that deliver no byte leave the lent buffer as it is, and the refusals come in their order.
 use Prim.Native.Nat.{ℕ, _≤_, _<_}
 use mathlib.Core.Path.{_≡_, refl, ap, sym, _∙_}
-use mathlib.Core.List.{List, [], _∷_}
-use mathlib.Core.Bool.{Bool, true, false}
+use mathlib.Core.List.{List, []}
+use mathlib.Core.Bool.{true, false}
 use native.Mathlib.Omega.{arith}
-use lib.ListN.{length, take}
-use lib.Dec.{eqb, ltb}
-use borrow.Author.Tests.{lt-ltb, le-ltb, le-leb, lt-leb, eq-eqb, ne-eqb}
-use Rattle.lists.specs.Bytes.{be, beBytes}
-use Rattle.lists.proofs.Tests.{both}
+use lib.ListN.{length}
+use borrow.Author.Tests.{le-ltb, le-leb, lt-leb, eq-eqb, ne-eqb}
 use Rattle.lists.proofs.Deliver.{deliver-none}
 use Rattle.paper.specs.Tables.{unitsOf}
 use Rattle.paper.specs.Standing.{standing}
-use Rattle.paper.specs.Orders.{Order, reportAcl, Reading, wrong, order, serviceAction, lengthField, readIn, exactly, readManage, readCancel, readOut, operation, readingOf}
-use Rattle.paper.specs.Effects.{issued, Effect, tokening}
-use Rattle.paper.specs.InForce.{inForce, effects}
-use Rattle.paper.specs.Commands.{Verdict, fails, passes, wrongKey, keyTests, requestTests, tests}
-use Rattle.paper.specs.Reports.{reportBytes}
+use Rattle.paper.specs.Orders.{Reading, wrong, order, readingOf}
+use Rattle.paper.specs.Effects.{Effect}
+use Rattle.paper.specs.InForce.{effects}
+use Rattle.paper.specs.Commands.{Verdict, fails, passes, wrongKey, keyTests, tests}
 use Rattle.paper.specs.Outcomes.{Decision, refuse, check, good, replyTo, judged, decideOrder, decideReading, owed, inRoom, decideCommand, outcomeOf, bufferAfter}
 use Rattle.paper.specs.declared.state.Coordinator.{Coordinator}
 use Rattle.paper.specs.declared.answers.Refusal.{Refusal}
 use Rattle.paper.specs.declared.answers.Refusal.the-variants.{BadState, NoInitiator, BadCdb, BadParameters}
 use Rattle.paper.specs.declared.answers.Condition.{Condition}
-use Rattle.paper.specs.declared.answers.Condition.the-variants.{OtherOperation, InvalidField, WrongKey}
+use Rattle.paper.specs.declared.answers.Condition.the-variants.{WrongKey}
 use Rattle.paper.specs.declared.outcomes.Outcome.{Outcome}
-use Rattle.coordinator.specs.Orders.{orderOf, forceOf, readRequest}
+use Rattle.coordinator.specs.Orders.{orderOf, meantBy, forced}
+use Rattle.coordinator.specs.declared.reading.Command.{Command}
 use Rattle.coordinator.specs.declared.reading.OutOrder.{OutOrder}
 use Rattle.coordinator.specs.declared.reading.OutOrder.the-variants.{Manage, Disable, Enroll, Cancel, Revoke, RevokeAll, Assign, Release, NoAction}
-use Rattle.coordinator.proofs.Supported.{force-is}
 
 -- an outcome and a lent buffer, as a decision leaves them
 abbrev pub Answered : Coordinator → Outcome → List ℕ → List ℕ → Decision → Type 0
@@ -59,9 +55,6 @@ module _ (c : Coordinator) {r : Outcome} (buffer : List ℕ) where
   pub checked-so : {d : Decision} {k : Condition} → d ≡ check k → r ≡ outcomeOf c (check k) → Answered c r buffer buffer (inRoom (length buffer) d)
   checked-so p e = rw p (e, refl)
 
-  pub nothing-done : {d : Decision} → d ≡ good [] [] → r ≡ outcomeOf c (good [] []) → Answered c r buffer buffer (inRoom (length buffer) d)
-  nothing-done p e = rw p (quietly c buffer done e)
-
 -- ---- REPORT ACL, by its key
 module _ (c : Coordinator) (key : ℕ) (d : Decision) where
   pub key-wrong : wrongKey c key ≡ true → judged (keyTests c key) d ≡ check WrongKey
@@ -72,82 +65,8 @@ module _ (c : Coordinator) (key : ℕ) (d : Decision) where
   unfolding keyTests
   key-right h = rw h
 
--- ---- the IN commands
-in-force-report : (on : Bool) (key room : ℕ) → inForce on (reportAcl key room) ≡ reportAcl key room
-unfolding inForce
-in-force-report true key room = refl
-in-force-report false key room = refl
-
-module _ (c : Coordinator) (i random : ℕ) (cdb : List ℕ) where
-  pub report-asked : serviceAction cdb ≡ 0x00 → decideReading c i random (readIn cdb) ≡ judged (keyTests c (be 8 cdb 2)) (good [] (take (lengthField cdb) (reportBytes c)))
-  unfolding readIn decideReading decideOrder tests effects replyTo
-  report-asked h = rw (h, in-force-report (c .enabled) (be 8 cdb 2) (lengthField cdb))
-
-  pub request-asked : serviceAction cdb ≡ 0x04 → decideReading c i random (readIn cdb) ≡ decideReading c i random (readRequest cdb)
-  unfolding readIn
-  request-asked h = rw h
-
-  pub in-unsupported : (serviceAction cdb ≡ 0x00 → ⊥) → (serviceAction cdb ≡ 0x04 → ⊥) → decideReading c i random (readIn cdb) ≡ check InvalidField
-  unfolding readIn decideReading
-  in-unsupported h k = rw (ne-eqb (serviceAction cdb) 0x00 h, ne-eqb (serviceAction cdb) 0x04 k)
-
-  pub request-short : lengthField cdb < 8 → decideReading c i random (readRequest cdb) ≡ check InvalidField
-  unfolding decideReading
-  request-short h = rw (lt-ltb (lengthField cdb) 8 h)
-
-  pub request-on : 8 ≤ lengthField cdb → c .enabled ≡ true → decideReading c i random (readRequest cdb) ≡ judged (requestTests c i (be 8 cdb 2) random) (good (tokening (issued i (be 8 cdb 2) random) ∷ []) (beBytes 8 random))
-  unfolding decideReading decideOrder inForce tests effects replyTo
-  request-on h on = rw (le-ltb (lengthField cdb) 8 h, on)
-
-  pub request-off : 8 ≤ lengthField cdb → c .enabled ≡ false → decideReading c i random (readRequest cdb) ≡ good [] []
-  unfolding decideReading decideOrder inForce tests effects replyTo
-  request-off h off = rw (le-ltb (lengthField cdb) 8 h, off)
-
--- ---- the OUT commands: none looks at the random number, and none delivers a byte
-data Told (list : List ℕ) : Reading → Type 0 where
-  wrongly : {k : Condition} → Told list (wrong k)
-  told : (o : OutOrder) → Told list (order (orderOf list o))
-
-told-exactly : (n : ℕ) (list : List ℕ) (o : OutOrder) → Told list (exactly n list (orderOf list o))
-unfolding exactly
-told-exactly n list o =
-    both (Told list) (eqb (length list) 0) (told NoAction) (both (Told list) (eqb (length list) n) (told o) wrongly)
-
-told-manage : (list : List ℕ) → Told list (readManage list)
-unfolding readManage
-told-manage list =
-    both (Told list) (eqb (length list) 0) (told NoAction) (both (Told list) (ltb (length list) 28) wrongly (told Manage))
-
-told-cancel : (list : List ℕ) → Told list (readCancel list)
-unfolding readCancel
-told-cancel list = both (Told list) (eqb (length list) 0) (told Cancel) wrongly
-
-told-out : (action : ℕ) (list : List ℕ) → Told list (readOut action list)
-unfolding readOut
-told-out action list =
-    both (Told list) (eqb action 0x00) (told-manage list)
-    (both (Told list) (eqb action 0x01) (told-exactly _ list (Disable (be 8 list 4)))
-    (both (Told list) (eqb action 0x02) (told-exactly _ list Enroll)
-    (both (Told list) (eqb action 0x03) (told-cancel list)
-    (both (Told list) (eqb action 0x07) (told-exactly _ list (Revoke (be 8 list 0)))
-    (both (Told list) (eqb action 0x08) (told-exactly _ list (RevokeAll (be 8 list 0)))
-    (both (Told list) (eqb action 0x09) (told-exactly _ list (Assign (be 8 list 0) (be 8 list 8)))
-    (both (Told list) (eqb action 0x0A) (told-exactly _ list (Release (be 8 list 0)))
-    wrongly)))))))
-
+-- ---- the OUT commands: none delivers a byte
 module _ (c : Coordinator) (i random : ℕ) (list : List ℕ) where
-  any-random : (o : OutOrder) → decideOrder c i random (orderOf list o) ≡ decideOrder c i 0 (orderOf list o)
-  unfolding decideOrder tests effects replyTo
-  any-random Manage = refl
-  any-random (Disable key) = refl
-  any-random Enroll = refl
-  any-random Cancel = refl
-  any-random (Revoke n) = refl
-  any-random (RevokeAll l) = refl
-  any-random (Assign n l) = refl
-  any-random (Release l) = refl
-  any-random NoAction = refl
-
   no-reply : (o : OutOrder) → replyTo c random (orderOf list o) ≡ []
   unfolding replyTo
   no-reply Manage = refl
@@ -165,33 +84,18 @@ module _ (c : Coordinator) (i random : ℕ) (list : List ℕ) where
   out-quiet o =
       rw (no-reply o) (judged-quiet (tests c i random (orderOf list o)) (effects (unitsOf c) (c .enabled) i random (orderOf list o)))
 
-  reading-random : {r : Reading} → Told list r → decideReading c i random r ≡ decideReading c i 0 r
-  unfolding decideReading
-  reading-random wrongly = refl
-  reading-random (told o) = rw (← force-is list (c .enabled) o) (any-random (forceOf (c .enabled) o))
+  pub obeyed : (buffer : List ℕ) (o : OutOrder) {r : Outcome} → r ≡ outcomeOf c (decideOrder c i random (orderOf list o)) → Answered c r buffer buffer (inRoom (length buffer) (decideOrder c i random (orderOf list o)))
+  obeyed buffer o e = quietly c buffer (out-quiet o) e
 
-  reading-quiet : {r : Reading} → Told list r → Quiet (decideReading c i random r)
-  unfolding decideReading
-  reading-quiet wrongly = checked
-  reading-quiet (told o) = rw (← force-is list (c .enabled) o) (out-quiet (forceOf (c .enabled) o))
+-- ---- what is in force decides
+abbrev pub decideForced : Coordinator → ℕ → ℕ → Reading → Decision
+decideForced c i random (wrong k) = check k
+decideForced c i random (order o) = decideOrder c i random o
 
-  pub out-decided : {r : Outcome} (action : ℕ) (buffer : List ℕ) → r ≡ outcomeOf c (decideReading c i 0 (readOut action list)) → Answered c r buffer buffer (inRoom (length buffer) (decideReading c i random (readOut action list)))
-  out-decided action buffer e =
-      quietly c buffer (reading-quiet (told-out action list)) (e ∙ ap (outcomeOf c) (sym (reading-random (told-out action list))))
-
--- ---- by the operation code
-module _ (cdb list : List ℕ) where
-  pub operation-in : operation cdb ≡ 0x86 → readingOf cdb list ≡ readIn cdb
-  unfolding readingOf
-  operation-in h = rw h
-
-  pub operation-out : operation cdb ≡ 0x87 → readingOf cdb list ≡ readOut (serviceAction cdb) list
-  unfolding readingOf
-  operation-out h = rw h
-
-  pub operation-other : (operation cdb ≡ 0x86 → ⊥) → (operation cdb ≡ 0x87 → ⊥) → readingOf cdb list ≡ wrong OtherOperation
-  unfolding readingOf
-  operation-other h k = rw (ne-eqb (operation cdb) 0x86 h, ne-eqb (operation cdb) 0x87 k)
+forced-decides : (c : Coordinator) (i random : ℕ) (x : Reading) → decideReading c i random x ≡ decideForced c i random (forced (c .enabled) x)
+unfolding decideReading
+forced-decides c i random (wrong k) = refl
+forced-decides c i random (order o) = refl
 
 -- ---- the refusals, in their order
 module _ (c : Coordinator) (i : ℕ) (cdb list : List ℕ) (random room : ℕ) where
@@ -214,6 +118,11 @@ module _ (c : Coordinator) (i : ℕ) (cdb list : List ℕ) (random room : ℕ) w
         unfolding decideCommand
         command-unowed o = rw (s, lt-leb _ _ h, eq-eqb _ _ e, ne-eqb _ _ o)
 
-        pub command-read : length list ≡ owed cdb → decideCommand c i cdb list random room ≡ inRoom room (decideReading c i random (readingOf cdb list))
+        command-read : length list ≡ owed cdb → decideCommand c i cdb list random room ≡ inRoom room (decideReading c i random (readingOf cdb list))
         unfolding decideCommand
         command-read o = rw (s, lt-leb _ _ h, eq-eqb _ _ e, eq-eqb _ _ o)
+
+        -- what was read, and is in force, decides
+        pub command-means : length list ≡ owed cdb → (v : Command) → meantBy cdb list v ≡ forced (c .enabled) (readingOf cdb list) → decideCommand c i cdb list random room ≡ inRoom room (decideForced c i random (meantBy cdb list v))
+        command-means o v means =
+            command-read o ∙ ap (inRoom room) (forced-decides c i random (readingOf cdb list) ∙ ap (decideForced c i random) (sym means))

@@ -1,13 +1,14 @@
--- What an OUT command's service action asks for where it is none of those that are supported, and what is in force.
-use Prim.Native.Nat.{ℕ}
+-- What a command's bytes ask for, case by case: a service action that is none of those that are supported, what is in force, and the operation codes.
+use Prim.Native.Nat.{ℕ, _<_, _≤_}
 use mathlib.Core.Path.{_≡_, refl}
 use mathlib.Core.List.{List}
 use mathlib.Core.Bool.{Bool, true, false}
-use borrow.Author.Tests.{ne-eqb}
-use Rattle.paper.specs.Orders.{wrong, readOut}
+use borrow.Author.Tests.{ne-eqb, lt-ltb, le-ltb}
+use Rattle.lists.specs.Bytes.{be}
+use Rattle.paper.specs.Orders.{reportAcl, requestToken, noAction, wrong, order, serviceAction, lengthField, readIn, readOut, operation, readingOf}
 use Rattle.paper.specs.InForce.{inForce}
-use Rattle.paper.specs.declared.answers.Condition.the-variants.{InvalidField}
-use Rattle.coordinator.specs.Orders.{orderOf, forceOf}
+use Rattle.paper.specs.declared.answers.Condition.the-variants.{InvalidField, OtherOperation}
+use Rattle.coordinator.specs.Orders.{orderOf, forceOf, readRequest, forced}
 use Rattle.coordinator.specs.declared.reading.OutOrder.{OutOrder}
 use Rattle.coordinator.specs.declared.reading.OutOrder.the-variants.{Manage, Disable, Enroll, Cancel, Revoke, RevokeAll, Assign, Release, NoAction}
 
@@ -40,3 +41,47 @@ force-is list false (RevokeAll l) = refl
 force-is list false (Assign n l) = refl
 force-is list false (Release l) = refl
 force-is list false NoAction = refl
+
+-- ---- the IN commands
+report-forced : (on : Bool) (key room : ℕ) → inForce on (reportAcl key room) ≡ reportAcl key room
+unfolding inForce
+report-forced true key room = refl
+report-forced false key room = refl
+
+module _ (on : Bool) (cdb : List ℕ) where
+  pub report-asked : serviceAction cdb ≡ 0x00 → order (reportAcl (be 8 cdb 2) (lengthField cdb)) ≡ forced on (readIn cdb)
+  unfolding readIn
+  report-asked h = rw (h, report-forced on (be 8 cdb 2) (lengthField cdb))
+
+  pub request-asked : serviceAction cdb ≡ 0x04 → forced on (readRequest cdb) ≡ forced on (readIn cdb)
+  unfolding readIn
+  request-asked h = rw h
+
+  pub in-unsupported : (serviceAction cdb ≡ 0x00 → ⊥) → (serviceAction cdb ≡ 0x04 → ⊥) → wrong InvalidField ≡ forced on (readIn cdb)
+  unfolding readIn
+  in-unsupported h k = rw (ne-eqb (serviceAction cdb) 0x00 h, ne-eqb (serviceAction cdb) 0x04 k)
+
+  pub request-short : lengthField cdb < 8 → wrong InvalidField ≡ forced on (readRequest cdb)
+  request-short h = rw (lt-ltb (lengthField cdb) 8 h)
+
+  pub request-on : 8 ≤ lengthField cdb → on ≡ true → order (requestToken (be 8 cdb 2)) ≡ forced on (readRequest cdb)
+  unfolding inForce
+  request-on h e = rw (le-ltb (lengthField cdb) 8 h, e)
+
+  pub request-off : 8 ≤ lengthField cdb → on ≡ false → order noAction ≡ forced on (readRequest cdb)
+  unfolding inForce
+  request-off h e = rw (le-ltb (lengthField cdb) 8 h, e)
+
+-- ---- by the operation code
+module _ (cdb list : List ℕ) where
+  pub operation-in : operation cdb ≡ 0x86 → readIn cdb ≡ readingOf cdb list
+  unfolding readingOf
+  operation-in h = rw h
+
+  pub operation-out : operation cdb ≡ 0x87 → readOut (serviceAction cdb) list ≡ readingOf cdb list
+  unfolding readingOf
+  operation-out h = rw h
+
+  pub operation-other : (operation cdb ≡ 0x86 → ⊥) → (operation cdb ≡ 0x87 → ⊥) → wrong OtherOperation ≡ readingOf cdb list
+  unfolding readingOf
+  operation-other h k = rw (ne-eqb (operation cdb) 0x86 h, ne-eqb (operation cdb) 0x87 k)

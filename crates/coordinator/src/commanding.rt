@@ -6,15 +6,17 @@ ghost use lib.ListN.{length, take};
 ghost use Rattle.lists.specs.Bytes.{be};
 ghost use Rattle.paper.specs.Standing.{standing};
 ghost use Rattle.paper.specs.Commands.{keyTests};
-ghost use Rattle.paper.specs.Orders.{lengthField, readIn, readingOf};
+ghost use Rattle.paper.specs.Orders.{lengthField};
 ghost use Rattle.paper.specs.Reports.{reportBytes};
-ghost use Rattle.paper.specs.Outcomes.{owed, good, judged, inRoom, decideReading, decideCommand, outcomeOf, bufferAfter};
-ghost use Rattle.rows.specs.Initiator.{InSetup};
-ghost use Rattle.coordinator.specs.Orders.{readRequest};
-use crate::obeying;
+ghost use Rattle.paper.specs.Outcomes.{owed, good, judged, inRoom, decideCommand, outcomeOf, bufferAfter};
 use crate::reading;
+use crate::reading::Command;
+use crate::reading::OutOrder;
+use commands::enrolling;
+use commands::proxying;
 use commands::switching;
 use commands::tokening;
+use manage::command;
 use paper::answers::Answer;
 use paper::answers::Condition;
 use paper::answers::Refusal;
@@ -37,57 +39,6 @@ fn report_acl(c: Coordinator, cdb: &[u8], reply: &mut [u8]) -> Outcome
     reporting::report(c, wire::be32(cdb, 10) as usize, reply)
 }
 
-// REQUEST PROXY TOKEN: its allocation length has room for a token; while disabled it is "GOOD with 0 bytes".
-fn request(c: Coordinator, i: usize, cdb: &[u8], random: u64, reply: &mut [u8]) -> Outcome
-    requires { ⌜ InSetup c i ⌝ }
-    ensures outcome { λ r. ⌜ r ≡ outcomeOf c (inRoom (length (now (reply .entry))) (decideReading c i random (readRequest (now (cdb .entry))))) ⌝ }
-    ensures bytes { λ r. ⌜ now (reply .exit) ≡ bufferAfter (inRoom (length (now (reply .entry))) (decideReading c i random (readRequest (now (cdb .entry))))) (now (reply .entry)) ⌝ }
-{
-    if wire::be32(cdb, 10) < 8 {
-        return outcomes::checked(c, Condition::InvalidField);
-    }
-    if c.enabled {
-        return tokening::request_token(c, i, wire::be64(cdb, 2), random, reply);
-    }
-    switching::no_action(c)
-}
-
-// An IN command by its service action; the reserved ones are not supported.
-fn command_in(c: Coordinator, i: usize, cdb: &[u8], random: u64, reply: &mut [u8]) -> Outcome
-    requires { ⌜ (standing c ≡ true) × InSetup c i ⌝ }
-    ensures outcome { λ r. ⌜ r ≡ outcomeOf c (inRoom (length (now (reply .entry))) (decideReading c i random (readIn (now (cdb .entry))))) ⌝ }
-    ensures bytes { λ r. ⌜ now (reply .exit) ≡ bufferAfter (inRoom (length (now (reply .entry))) (decideReading c i random (readIn (now (cdb .entry))))) (now (reply .entry)) ⌝ }
-{
-    let action = reading::service_action(cdb);
-    match action {
-        0x00 => report_acl(c, cdb, reply),
-        0x01..=0x03 => outcomes::checked(c, Condition::InvalidField),
-        0x04 => request(c, i, cdb, random, reply),
-        0x05..=0xff => outcomes::checked(c, Condition::InvalidField),
-    }
-}
-
-// A command by its operation code.
-fn answered(
-    c: Coordinator,
-    i: usize,
-    cdb: &[u8],
-    list: &[u8],
-    random: u64,
-    reply: &mut [u8],
-) -> Outcome
-    requires { ⌜ (standing c ≡ true) × InSetup c i ⌝ }
-    ensures outcome { λ r. ⌜ r ≡ outcomeOf c (inRoom (length (now (reply .entry))) (decideReading c i random (readingOf (now (cdb .entry)) (now (list .entry))))) ⌝ }
-    ensures bytes { λ r. ⌜ now (reply .exit) ≡ bufferAfter (inRoom (length (now (reply .entry))) (decideReading c i random (readingOf (now (cdb .entry)) (now (list .entry))))) (now (reply .entry)) ⌝ }
-{
-    let operation = wire::byte(cdb, 0);
-    match operation {
-        0x86 => command_in(c, i, cdb, random, reply),
-        0x87 => obeying::command_out(c, i, reading::service_action(cdb), list),
-        _ => outcomes::checked(c, Condition::OtherOperation),
-    }
-}
-
 // How many parameter bytes a command comes with.
 fn owed(cdb: &[u8]) -> usize
     ensures { λ r. ⌜ r ≡ owed (now (cdb .entry)) ⌝ }
@@ -98,7 +49,7 @@ fn owed(cdb: &[u8]) -> usize
     0
 }
 
-// A command of an initiator, where the state stands.
+// A command of an initiator, where the state stands. Each order has its command; all of them stand in this one function, since a function that hands the state on copies it.
 pub fn command_standing(
     c: Coordinator,
     initiator: usize,
@@ -120,7 +71,23 @@ pub fn command_standing(
     if list.len() != owed(cdb) {
         return outcomes::handed_back(c, Answer::Refused(Refusal::BadParameters), 0);
     }
-    answered(c, initiator, cdb, list, random, reply)
+    let asked = reading::command_of(c.enabled, cdb, list);
+    match asked {
+        Command::Denied(k) => outcomes::checked(c, k),
+        Command::Report => report_acl(c, cdb, reply),
+        Command::Request(l) => tokening::request_token(c, initiator, l, random, reply),
+        Command::Out(o) => match o {
+            OutOrder::Manage => command::manage_acl(c, list),
+            OutOrder::Disable(key) => switching::disable(c, key),
+            OutOrder::Enroll => enrolling::enroll(c, initiator, list),
+            OutOrder::Cancel => enrolling::cancel(c, initiator),
+            OutOrder::Revoke(n) => tokening::revoke(c, initiator, n),
+            OutOrder::RevokeAll(l) => tokening::revoke_all(c, initiator, l),
+            OutOrder::Assign(n, l) => proxying::assign(c, initiator, n, l),
+            OutOrder::Release(l) => proxying::release(c, initiator, l),
+            OutOrder::NoAction => switching::no_action(c),
+        },
+    }
 }
 
 // A command of an initiator.

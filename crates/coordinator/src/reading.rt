@@ -1,7 +1,9 @@
-// What an OUT command asks for: its service action, then its length.
+// What a command asks for: its operation code, its service action, then its length; and what of it is in force. It is read from the bytes alone, before the state is handed on.
 ghost use mathlib.Core.Path.{_≡_};
-ghost use Rattle.paper.specs.Orders.{exactly, readManage, readCancel, readOut, serviceAction};
-ghost use Rattle.coordinator.specs.Orders.{orderOf, readOf, forceOf};
+ghost use mathlib.Core.List.{List};
+ghost use Prim.Native.Nat.{ℕ};
+ghost use Rattle.paper.specs.Orders.{exactly, readManage, readCancel, readOut, readIn, readingOf, serviceAction};
+ghost use Rattle.coordinator.specs.Orders.{orderOf, readOf, forceOf, readRequest, meantBy, forced};
 use paper::answers::Condition;
 use paper::state::ID_SIZE;
 
@@ -21,6 +23,14 @@ pub enum OutOrder {
 pub enum OutRead {
     Wrong(Condition),
     Asked(OutOrder),
+}
+
+// A command, where it is in force. What REPORT ACL reads stands in the CDB.
+pub enum Command {
+    Denied(Condition),
+    Report,
+    Request(u64),
+    Out(OutOrder),
 }
 
 // Bits 0 to 4 of byte 1.
@@ -105,5 +115,54 @@ pub fn in_force(on: bool, o: OutOrder) -> OutOrder
         OutOrder::Assign(n, l) => OutOrder::Assign(n, l),
         OutOrder::Release(_) => OutOrder::NoAction,
         OutOrder::NoAction => OutOrder::NoAction,
+    }
+}
+
+// REQUEST PROXY TOKEN: its allocation length has room for a token; while disabled it is "GOOD with 0 bytes".
+fn request_command(on: bool, cdb: &[u8]) -> Command
+    ensures { λ r. ⌜ ((list : List ℕ) → meantBy (now (cdb .entry)) list r ≡ forced on (readRequest (now (cdb .entry)))) ⌝ }
+{
+    if wire::be32(cdb, 10) < 8 {
+        return Command::Denied(Condition::InvalidField);
+    }
+    if on {
+        return Command::Request(wire::be64(cdb, 2));
+    }
+    Command::Out(OutOrder::NoAction)
+}
+
+// An IN command by its service action; the reserved ones are not supported.
+fn in_command(on: bool, cdb: &[u8]) -> Command
+    ensures { λ r. ⌜ ((list : List ℕ) → meantBy (now (cdb .entry)) list r ≡ forced on (readIn (now (cdb .entry)))) ⌝ }
+{
+    let action = service_action(cdb);
+    match action {
+        0x00 => Command::Report,
+        0x01..=0x03 => Command::Denied(Condition::InvalidField),
+        0x04 => request_command(on, cdb),
+        0x05..=0xff => Command::Denied(Condition::InvalidField),
+    }
+}
+
+// An OUT command.
+fn out_command(on: bool, action: u8, list: &[u8]) -> Command
+    ensures { λ r. ⌜ ((cdb : List ℕ) → meantBy cdb (now (list .entry)) r ≡ forced on (readOut action (now (list .entry)))) ⌝ }
+{
+    let read = read_out(action, list);
+    match read {
+        OutRead::Wrong(k) => Command::Denied(k),
+        OutRead::Asked(o) => Command::Out(in_force(on, o)),
+    }
+}
+
+// A command by its operation code.
+pub fn command_of(on: bool, cdb: &[u8], list: &[u8]) -> Command
+    ensures { λ r. ⌜ meantBy (now (cdb .entry)) (now (list .entry)) r ≡ forced on (readingOf (now (cdb .entry)) (now (list .entry))) ⌝ }
+{
+    let operation = wire::byte(cdb, 0);
+    match operation {
+        0x86 => in_command(on, cdb),
+        0x87 => out_command(on, service_action(cdb), list),
+        _ => Command::Denied(Condition::OtherOperation),
     }
 }
