@@ -7,11 +7,10 @@ use native.Mathlib.Omega.{arith}
 use native.Mathlib.Nat.{add-zero}
 use native.Mathlib.Numerals.{add-one}
 use lib.ListN.{length, getD, set, take, drop, replicate, length-take, length-drop, length-map, length-set, drop-of-length-le, List·getD-map}
-use lib.Seq.{sets, drop-cons, take-all, take-nil, take-take, getD-take, getD-drop, drop-drop, getD-set-same, getD-set-other}
+use lib.Seq.{sets, drop-cons, take-nil, getD-take, getD-drop, drop-drop, getD-set-same, getD-set-other}
 use lib.Dec.{eqb}
 use borrow.Author.Tests.{eq-eqb, eqb-true}
 use Rattle.lists.specs.Lists.{parts, gather}
-use Rattle.lists.specs.Tables.{pad}
 use Rattle.lists.proofs.Tests.{split, clashes}
 use Rattle.lists.proofs.Parts.{getD-parts, length-parts, length-gather}
 use Rattle.lists.proofs.Tables.{Grown, grown-none, grown-end}
@@ -52,18 +51,11 @@ module _ (stage : ℕ) (access id : List ℕ) where
       go false true = rw h
       go false false = refl
 
--- ---- an identifier at a place: past the end, and as the first of what is left
-module _ (bytes : List ℕ) (at : ℕ) where
-  pub id-out : length bytes ≤ at → replicate 24 0 ≡ idAt bytes at
-  id-out h = rw (drop-of-length-le bytes {i = at} h)
-
-  pub id-rest : pad 0 24 (take 24 (take (length bytes - at) (drop at bytes))) ≡ idAt bytes at
-  id-rest = rw (take-all (length bytes - at) (drop at bytes) (omega (arith, length-drop at bytes)))
-
-  pub id-in : at + 24 ≤ length bytes → take 24 (drop at bytes) ≡ idAt bytes at
-  id-in h =
-      let e : 24 - length (take 24 (drop at bytes)) ≡ 0 = omega (arith, length-take 24 (drop at bytes), length-drop at bytes) in
-      rw (e, append-nil)
+-- ---- an identifier at a place
+id-in : (bytes : List ℕ) (at : ℕ) → at + 24 ≤ length bytes → take 24 (drop at bytes) ≡ idAt bytes at
+id-in bytes at h =
+    let e : 24 - length (take 24 (drop at bytes)) ≡ 0 = omega (arith, length-take 24 (drop at bytes), length-drop at bytes) in
+    rw (e, append-nil)
 
 -- ---- the tables of TransportIDs and of enrolments
 abbrev pub enrolmentsIn : ℕ → List ℕ → List Enrolment
@@ -73,7 +65,7 @@ drop-take : (n : ℕ) (l : List ℕ) → drop 1 (take (suc n) l) ≡ take n (dro
 drop-take n [] = sym (take-nil n)
 drop-take n (x ∷ l) = refl
 
--- the part of one initiator, as the code cuts it: in the bytes, and past their end; and what is read in it
+-- the part of one initiator, as the code cuts it: in the bytes, and past their end; and the stage in it
 pub part-in : (size i : ℕ) (bytes : List ℕ) → take (size * i + size - size * i) (drop (size * i) bytes) ≡ take size (drop (size * i) bytes)
 part-in size i bytes = let e : size * i + size - size * i ≡ size = omega arith in rw e
 
@@ -82,12 +74,8 @@ module _ (bytes : List ℕ) (at : ℕ) where
   part-out size k h m =
       rw (drop-of-length-le bytes {i = k} h, drop-of-length-le bytes {i = at} m) (take-nil (length bytes - k) ∙ sym (take-nil size))
 
-  pub stage-in-part : getD (take 25 (drop at bytes)) 0 0 ≡ getD bytes at 0
+  stage-in-part : getD (take 25 (drop at bytes)) 0 0 ≡ getD bytes at 0
   stage-in-part = getD-take 25 (drop at bytes) 0 0 (omega arith) ∙ getD-drop at bytes 0 0 ∙ rw add-zero
-
-  pub access-in-part : idAt (take 25 (drop at bytes)) 1 ≡ idAt bytes (at + 1)
-  access-in-part =
-      rw (drop-take 24 (drop at bytes), take-take 24 24 (drop 1 (drop at bytes)) (omega arith), drop-drop 1 at bytes)
 
 module _ (n : ℕ) (bytes : List ℕ) (i : ℕ) where
   pub enrolment-at : i < n → n ≤ 16 → length bytes ≡ 400 → getD (enrolmentsIn n bytes) i notEnrolled ≡ enrolmentAt (getD bytes (25 * i) 0) (idAt bytes (25 * i + 1))

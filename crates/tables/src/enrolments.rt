@@ -2,7 +2,7 @@
 ghost use mathlib.Core.Path.{_≡_};
 ghost use mathlib.Core.List.{[], map};
 ghost use Prim.Native.Nat.{_+_, _*_, _≤_};
-ghost use lib.ListN.{getD, take, drop};
+ghost use lib.ListN.{length, take, drop};
 ghost use lib.Seq.{sets};
 ghost use Rattle.lists.specs.Lists.{parts};
 ghost use Rattle.paper.specs.Identifiers.{kept};
@@ -33,16 +33,6 @@ pub struct Stored {
     pub id: [u8; ID_SIZE],
 }
 
-// The identifier at a place of a run of bytes, all of it.
-fn id_at(bytes: &[u8], at: usize) -> [u8; ID_SIZE]
-    ensures { λ r. ⌜ r ≡ idAt (now (bytes .entry)) at ⌝ }
-{
-    if bytes.len() <= at {
-        return [0; ID_SIZE];
-    }
-    identifiers::kept_id(IdType::TransportId, &bytes[at..])
-}
-
 // The TransportID of an initiator, in the bytes that hold them all; nothing past the last initiator that there is room for.
 pub fn transport_part(ids: &[u8; IDS_SIZE], i: usize) -> &[u8]
     ensures { λ r. ⌜ now r ≡ take 24 (drop (24 * i) (now (ids .entry))) ⌝ }
@@ -69,28 +59,39 @@ pub fn enrolment_part(enrolments: &[u8; ENROLMENTS_SIZE], i: usize) -> &[u8]
     &all[from..to]
 }
 
-// The stage of an initiator's enrolment.
-pub fn stage_of(t: Initiators, i: usize) -> u8
-    ensures { λ r. ⌜ r ≡ getD (t .enrolments) (25 * i) 0 ⌝ }
+// The AccessID at a place of the enrolments.
+fn access_at(bytes: &[u8], at: usize) -> [u8; ID_SIZE]
+    requires { ⌜ at + 24 ≤ length (now bytes) ⌝ }
+    ensures { λ r. ⌜ r ≡ idAt (now (bytes .entry)) at ⌝ }
 {
-    let bytes = t.enrolments;
-    wire::byte(enrolment_part(&bytes, i), 0)
+    let mut id = [0; ID_SIZE];
+    let mut j = 0;
+    while j < ID_SIZE {
+        id[j] = bytes[at + j];
+        j += 1;
+    }
+    id
 }
 
-// The AccessID of an initiator's enrolment.
-pub fn access_of(t: Initiators, i: usize) -> [u8; ID_SIZE]
-    ensures { λ r. ⌜ r ≡ idAt (t .enrolments) (25 * i + 1) ⌝ }
+// An AccessID as it is kept, all of whose bytes are there.
+fn kept_access(id: [u8; ID_SIZE]) -> [u8; ID_SIZE]
+    ensures { λ r. ⌜ r ≡ kept AccessId id ⌝ }
 {
-    let bytes = t.enrolments;
-    id_at(enrolment_part(&bytes, i), 1)
+    let mut bytes = [0; ID_SIZE];
+    let mut j = 0;
+    while j < 16 {
+        bytes[j] = id[j];
+        j += 1;
+    }
+    bytes
 }
 
-fn stored_under(stage: u8, id: &[u8]) -> Stored
-    ensures { λ r. ⌜ r ≡ record { stage = stage; id = kept AccessId (now (id .entry)) } ⌝ }
+fn stored_under(stage: u8, access: [u8; ID_SIZE]) -> Stored
+    ensures { λ r. ⌜ r ≡ record { stage = stage; id = kept AccessId access } ⌝ }
 {
     Stored {
         stage: stage,
-        id: identifiers::kept_id(IdType::AccessId, id),
+        id: kept_access(access),
     }
 }
 
@@ -99,10 +100,10 @@ fn same_stored(stage: u8, access: [u8; ID_SIZE]) -> Stored
     ensures { λ r. ⌜ r ≡ storedFor (enrolmentAt stage access) ⌝ }
 {
     if stage == 1 {
-        return stored_under(1, &access);
+        return stored_under(1, access);
     }
     if stage == 2 {
-        return stored_under(2, &access);
+        return stored_under(2, access);
     }
     Stored {
         stage: 0,
@@ -115,7 +116,7 @@ fn suspended_stored(stage: u8, access: [u8; ID_SIZE]) -> Stored
     ensures { λ r. ⌜ r ≡ storedFor (suspended (enrolmentAt stage access)) ⌝ }
 {
     if stage == 1 {
-        return stored_under(2, &access);
+        return stored_under(2, access);
     }
     same_stored(stage, access)
 }
@@ -137,7 +138,10 @@ fn changed_stored(change: Change, i: usize, stage: u8, access: [u8; ID_SIZE], id
     match change {
         Change::Joined(j) => {
             if i == j {
-                return stored_under(1, id);
+                return Stored {
+                    stage: 1,
+                    id: identifiers::kept_id(IdType::AccessId, id),
+                };
             }
             same_stored(stage, access)
         }
@@ -180,11 +184,13 @@ pub fn enrolments_after(t: Initiators, change: Change, id: &[u8]) -> Initiators
 {
     let count = t.count;
     let ids = t.ids;
+    let old = t.enrolments;
     let mut bytes = [0; ENROLMENTS_SIZE];
     let mut i = 0;
     while i < count {
-        let e = changed_stored(change, i, stage_of(t, i), access_of(t, i), id);
-        write_stored(&mut bytes, ENROLMENT_SIZE * i, e);
+        let at = ENROLMENT_SIZE * i;
+        let e = changed_stored(change, i, old[at], access_at(&old, at + 1), id);
+        write_stored(&mut bytes, at, e);
         i += 1;
     }
     Initiators {

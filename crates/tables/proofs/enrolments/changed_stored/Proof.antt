@@ -10,7 +10,7 @@ changed-stored-spec =
     (tie.spec
     (λ c. search needs)
     (λ c κs. search needs)
-    (λ c. rw (c .before .before .before .change .given .1, eq-eqb _ _ (c .before .if1 .taken)) (c .stored-under .ensures))
+    (λ c. rw (c .before .before .before .change .given .1, eq-eqb _ _ (c .before .if1 .taken), c .kept-id .ensures))
     (λ c κs. search needs)
     (λ c. search needs)
     (λ c κs. search needs)

@@ -1,5 +1,6 @@
 -- Row by row the changed enrolment is written behind those that are written already.
 use Prim.Native.Nat.{_-_}
+use mathlib.Core.Path.{refl}
 use native.Mathlib.Omega.{arith}
 use borrow.Author.Needs.{needs}
 use Rattle.lists.proofs.Walk.{length-mapped}
@@ -8,10 +9,10 @@ use Rattle.tables.proofs.enrolments.enrolments_after.Statement.{stateme
 use Rattle.tables.proofs.enrolments.enrolments_after.Tie as tie
 
 abbrev Inv : tie.InvT-loop
-Inv t change id count ids bytes₀ i₀ bytes i = Enrolling change id (t .enrolments) count i bytes
+Inv change id count ids old bytes₀ i₀ bytes i = Enrolling change id old count i bytes
 
 abbrev μ : tie.MeasureT-loop
-μ t change id count ids bytes₀ i₀ bytes i = count - i
+μ change id count ids old bytes₀ i₀ bytes i = count - i
 
 pub enrolments-after-spec : {M : Type 1} → statement M
 enrolments-after-spec =
@@ -20,14 +21,18 @@ enrolments-after-spec =
     Inv
     μ
     (λ c. enrol-none _ _ _ _ (search (length-mapped, needs)) (search needs))
-    (λ c κs. search needs)
-    (λ c κs. search needs)
-    (λ c κs. search needs)
     (λ c. omega arith)
+    (λ c. omega arith)
+    (λ c. omega arith)
+    (λ c. search needs)
+    (λ c κs. omega arith)
+    (λ c κs. search needs)
     (λ c κs. omega arith)
     (λ c. omega arith)
     (λ c. omega arith)
     (λ c.
-    let a = c .before .before .before .before .before in
-    enrol-more _ _ _ _ (a .before .loop .inv) (a .loop-test .taken) (c .before .before .before .before .stage-of .ensures) (c .before .before .before .access-of .ensures) (c .before .before .changed-stored .ensures) (c .write-stored .ensures))
+    let turned = c .before .before in
+    let read = turned .before in
+    let test = read .before .before in
+    enrol-more _ _ _ _ (test .before .loop .inv) (test .loop-test .taken) refl (read .access-at .ensures) (turned .changed-stored .ensures) (c .write-stored .ensures))
     (λ c. rw (enrol-end _ _ _ _ (c .before .loop .inv) (c .loop-test .left))))

@@ -8,4 +8,4 @@ stored-under-spec =
     tie.close
     (tie.spec
     (λ c κs. search needs)
-    (λ c. rw (c .kept-id .ensures)))
+    (λ c. rw (c .kept-access .ensures)))

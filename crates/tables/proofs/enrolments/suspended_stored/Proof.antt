@@ -11,8 +11,7 @@ pub suspended-stored-spec : {M : Type 1} → statement M
 suspended-stored-spec =
     tie.close
     (tie.spec
-    (λ c. search needs)
     (λ c κs. search needs)
-    (λ c. rw (eq-eqb _ _ (c .before .before .if1 .taken)) (c .stored-under .ensures))
+    (λ c. rw (eq-eqb _ _ (c .before .if1 .taken)) (c .stored-under .ensures))
     (λ c κs. search needs)
-    (λ c. c .same-stored .ensures ∙ sym (ap storedFor (suspended-other (c .before .before .args .stage) (c .before .before .args .t2) (ne-eqb _ _ (c .before .if1 .left))))))
+    (λ c. c .same-stored .ensures ∙ sym (ap storedFor (suspended-other (c .before .before .args .stage) (c .before .before .args .access) (ne-eqb _ _ (c .before .if1 .left))))))
