@@ -17,6 +17,7 @@ use paper::outcomes;
 use paper::outcomes::Outcome;
 use paper::state::Coordinator;
 use paper::state::IdType;
+use rows::building;
 use rows::clashes;
 use tables::aces;
 use tables::effects;
@@ -72,7 +73,7 @@ pub fn enroll(c: Coordinator, i: usize, id: &[u8]) -> Outcome
         return outcomes::checked(c, Condition::NoAce);
     }
     let next = with_joined(c, i, id);
-    if clashes::clash_for(next, i) {
+    if clashes::clash_in(building::rows_of(next, i)) {
         return outcomes::checked(c, Condition::Clash);
     }
     outcomes::handed_back(next, Answer::Good, 0)

@@ -1,11 +1,22 @@
--- The tests are those of the definition, in its order; the clash is looked for in the state after the enrolment.
+-- The tests are those of the definition, in its order; the clash is looked for in the rows after the enrolment.
 use Rattle.paper.specs.Applied.{applied, appliedAll}
 use Rattle.paper.specs.Commands.{enrollTests}
-use mathlib.Core.Path.{_∙_, sym, ap}
-use mathlib.Core.Bool.{not}
+use mathlib.Core.Path.{_≡_, _∙_, sym, ap}
 use borrow.Author.Needs.{needs}
+use mathlib.Core.List.{List}
+use mathlib.Core.Bool.{Bool, not}
+use lib.ListN.{take}
+use Rattle.lists.proofs.Tables.{take-pad}
+use Rattle.paper.specs.Rows.{rowsOf, clashIn}
+use Rattle.paper.specs.declared.state.Row.{Row}
+use Rattle.rows.specs.Table.{noRow, rowTable}
+use Rattle.rows.specs.declared.table.Rows.{Rows}
 use Rattle.commands.proofs.enrolling.enroll.Statement.{statement}
 use Rattle.commands.proofs.enrolling.enroll.Tie as tie
+
+-- the rows in use of the table are the initiator's rows
+clash-built : (l : List Row) {rows : Rows} {r : Bool} → rows ≡ rowTable l → r ≡ clashIn (take (rows .count) (rows .items)) → r ≡ clashIn l
+clash-built l e h = h ∙ ap (λ (t : Rows). clashIn (take (t .count) (t .items))) e ∙ ap clashIn (take-pad noRow 96 l)
 
 pub enroll-spec : {M : Type 1} → statement M
 unfolding enrollTests applied appliedAll
@@ -21,6 +32,19 @@ enroll-spec =
     (λ c κs. search needs)
     (λ c κs. rw (c .with-joined .ensures) (record { there = c .before .before .before .before .before .before .before .pre .there; few = c .before .before .before .before .before .before .before .pre .few }))
     (λ c κs. search needs)
-    (λ c. let d = c .before .before .before .before in let b = d .before .before .before in rw (sym (b .before .is-elsewhere .ensures) ∙ b .if1 .left, ap not (sym (d .before .has-ace .ensures)) ∙ d .if2 .left, rw (c .before .before .before .with-joined .ensures) at (sym (c .before .before .clash-for .ensures) ∙ c .before .if3 .taken)) (c .checked3 .ensures))
     (λ c κs. search needs)
-    (λ c. let d = c .before .before .before .before in let b = d .before .before .before in rw (sym (b .before .is-elsewhere .ensures) ∙ b .if1 .left, ap not (sym (d .before .has-ace .ensures)) ∙ d .if2 .left, rw (c .before .before .before .with-joined .ensures) at (sym (c .before .before .clash-for .ensures) ∙ c .before .if3 .left)) (rw (c .before .before .before .with-joined .ensures) at (c .handed-back .ensures))))
+    (λ c.
+    let looked = c .before .before in
+    let joined = looked .before .before in
+    let d = joined .before in
+    let start = d .before .before .before .before .before .before in
+    let b = d .before .before .before in
+    rw (sym (b .before .is-elsewhere .ensures) ∙ b .if1 .left, ap not (sym (d .before .has-ace .ensures)) ∙ d .if2 .left, rw (joined .with-joined .ensures) at (sym (clash-built (rowsOf (joined .with-joined .result) (start .args .i)) (looked .before .rows-of .ensures) (looked .clash-in .ensures)) ∙ c .before .if3 .taken)) (c .checked3 .ensures))
+    (λ c κs. search needs)
+    (λ c.
+    let looked = c .before .before in
+    let joined = looked .before .before in
+    let d = joined .before in
+    let start = d .before .before .before .before .before .before in
+    let b = d .before .before .before in
+    rw (sym (b .before .is-elsewhere .ensures) ∙ b .if1 .left, ap not (sym (d .before .has-ace .ensures)) ∙ d .if2 .left, rw (joined .with-joined .ensures) at (sym (clash-built (rowsOf (joined .with-joined .result) (start .args .i)) (looked .before .rows-of .ensures) (looked .clash-in .ensures)) ∙ c .before .if3 .left)) (rw (joined .with-joined .ensures) at (c .handed-back .ensures))))
