@@ -3,8 +3,7 @@ ghost use mathlib.Core.Path.{_≡_};
 ghost use Prim.Native.Nat.{_≤_};
 ghost use lib.ListN.{take};
 ghost use Rattle.paper.specs.Grounds.{isTAW};
-ghost use Rattle.paper.specs.Rows.{clashing, clashIn, clashFor, someClash};
-ghost use Rattle.rows.specs.Initiator.{InSetup};
+ghost use Rattle.paper.specs.Rows.{clashing, clashIn, someClash};
 use crate::building;
 use crate::table::Rows;
 use paper::state::Coordinator;
@@ -66,14 +65,6 @@ pub fn clash_in(rows: Rows) -> bool
     false
 }
 
-// Whether an initiator has a clash.
-pub fn clash_for(c: Coordinator, i: usize) -> bool
-    requires { ⌜ InSetup c i ⌝ }
-    ensures { λ r. ⌜ r ≡ clashFor c i ⌝ }
-{
-    clash_in(building::rows_of(c, i))
-}
-
 // "some initiator has a clash"
 pub fn some_clash(c: Coordinator) -> bool
     requires { ⌜ c .initiators .count ≤ 16 ⌝ }
@@ -82,7 +73,7 @@ pub fn some_clash(c: Coordinator) -> bool
     let n = c.initiators.count;
     let mut i = 0;
     while i < n {
-        if clash_for(c, i) {
+        if clash_in(building::rows_of(c, i)) {
             return true;
         }
         i += 1;

@@ -1,22 +1,13 @@
 -- The tests are those of the definition, in its order; the clash is looked for in the rows after the enrolment.
+use mathlib.Core.Path.{_∙_, sym, ap}
+use mathlib.Core.Bool.{not}
+use borrow.Author.Needs.{needs}
 use Rattle.paper.specs.Applied.{applied, appliedAll}
 use Rattle.paper.specs.Commands.{enrollTests}
-use mathlib.Core.Path.{_≡_, _∙_, sym, ap}
-use borrow.Author.Needs.{needs}
-use mathlib.Core.List.{List}
-use mathlib.Core.Bool.{Bool, not}
-use lib.ListN.{take}
-use Rattle.lists.proofs.Tables.{take-pad}
-use Rattle.paper.specs.Rows.{rowsOf, clashIn}
-use Rattle.paper.specs.declared.state.Row.{Row}
-use Rattle.rows.specs.Table.{noRow, rowTable}
-use Rattle.rows.specs.declared.table.Rows.{Rows}
+use Rattle.paper.specs.Rows.{rowsOf}
+use Rattle.rows.proofs.Clashing.{clash-built}
 use Rattle.commands.proofs.enrolling.enroll.Statement.{statement}
 use Rattle.commands.proofs.enrolling.enroll.Tie as tie
-
--- the rows in use of the table are the initiator's rows
-clash-built : (l : List Row) {rows : Rows} {r : Bool} → rows ≡ rowTable l → r ≡ clashIn (take (rows .count) (rows .items)) → r ≡ clashIn l
-clash-built l e h = h ∙ ap (λ (t : Rows). clashIn (take (t .count) (t .items))) e ∙ ap clashIn (take-pad noRow 96 l)
 
 pub enroll-spec : {M : Type 1} → statement M
 unfolding enrollTests applied appliedAll

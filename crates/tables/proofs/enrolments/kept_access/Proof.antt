@@ -3,7 +3,6 @@ use Prim.Native.Nat.{_-_}
 use mathlib.Core.List.{[]}
 use native.Mathlib.Omega.{arith}
 use borrow.Author.Needs.{needs}
-use lib.ListN.{length}
 use Rattle.lists.proofs.Rebuild.{Copied, copy-none, copy-more, copy-all}
 use Rattle.tables.proofs.enrolments.kept_access.Statement.{statement}
 use Rattle.tables.proofs.enrolments.kept_access.Tie as tie
