@@ -12,7 +12,7 @@ use borrow.Author.Tests.{leb-true, leb-false}
 use Rattle.lists.proofs.Tests.{split}
 use Rattle.lists.specs.Lists.{any, placeOf}
 use Rattle.journal.specs.Lines.{isEnd}
-use Rattle.journal.specs.TakenIn.{beforeEnd, TookIn}
+use Rattle.journal.specs.TakenIn.{Lengthened, TookIn}
 
 -- ---- one byte more
 pub longer : (line : List ℕ) (used b : ℕ) → 262145 ≤ length line → used < 262145 → take (used + 1) (set line used b) ≡ take 262145 (take used line ++ (b ∷ []))
@@ -26,9 +26,9 @@ too-long line used b l h k =
     sym (take-append-le 262145 (take used line) (b ∷ []) (omega (arith, length-take used line)) ∙ rw full (take-take 262145 262145 line (omega arith)))
 
 -- what goes on behind what was kept goes on behind what there was
-pub cut-twice : (n : ℕ) (s t : List ℕ) → take n (take n s ++ t) ≡ take n (s ++ t)
-cut-twice n s t =
-    split-le n (length s)
+pub cut-twice : (n : ℕ) (s t : List ℕ) {kept : List ℕ} → kept ≡ take n s → take n (kept ++ t) ≡ take n (s ++ t)
+cut-twice n s t e =
+    ap (λ x. take n (x ++ t)) e ∙ split-le n (length s)
     (λ h. take-append-le n (take n s) t (omega (arith, length-take n s)) ∙ (take-take n n s (omega arith) ∙ sym (take-append-le n s t h)))
     (λ h. ap (λ x. take n (x ++ t)) (take-all n s (omega arith)))
   where
@@ -60,18 +60,20 @@ module _ {old chunk : List ℕ} {size k : ℕ} {line : List ℕ} {used : ℕ} (s
   next : drop k chunk ≡ getD chunk k 0 ∷ drop (k + 1) chunk
   next = rw (add-one k) (drop-cons chunk k 0 h)
 
-  pub taking-more : (isEnd (getD chunk k 0) ≡ false) → {line′ : List ℕ} {used′ : ℕ} → length line′ ≡ length line → take used′ line′ ≡ take 262145 (take used line ++ (getD chunk k 0 ∷ [])) → used′ ≤ 262145 → Taking old chunk size (k + 1) line′ used′
+  -- the limit is a variable here, since a literal of its size is counted down in ones where two sides are compared
+  one-more : (limit : ℕ) {kept : List ℕ} → kept ≡ take limit (old ++ take k chunk) → take limit (kept ++ (getD chunk k 0 ∷ [])) ≡ take limit (old ++ take (k + 1) chunk)
+  one-more limit e =
+      cut-twice limit (old ++ take k chunk) (getD chunk k 0 ∷ []) e
+      ∙ ap (take limit) (append-assoc old (take k chunk) (getD chunk k 0 ∷ []) ∙ ap (λ x. old ++ x) (sym (rw (add-one k) (take-suc chunk k 0 h))))
+
+  pub taking-more : (isEnd (getD chunk k 0) ≡ false) → {line′ : List ℕ} {used′ : ℕ} → length line′ ≡ length line → Lengthened (take used line) (getD chunk k 0) (take used′ line′) used′ → Taking old chunk size (k + 1) line′ used′
   unfolding any placeOf
-  taking-more e same grown few =
+  taking-more e same grown =
       record {
         passed = omega arith;
         long = same ∙ s .long;
-        sofar =
-            grown
-            ∙ (ap (λ x. take 262145 (x ++ (getD chunk k 0 ∷ []))) (s .sofar)
-            ∙ (cut-twice 262145 (old ++ take k chunk) (getD chunk k 0 ∷ [])
-            ∙ ap (take 262145) (append-assoc old (take k chunk) (getD chunk k 0 ∷ []) ∙ ap (λ x. old ++ x) (sym (rw (add-one k) (take-suc chunk k 0 h))))));
-        small = few;
+        sofar = grown .kept ∙ one-more 262145 (s .sofar);
+        small = grown .small;
         seeks = s .seeks ∙ rw (next, e);
         place = s .place ∙ rw (next, e) (omega arith);
       }

@@ -1,9 +1,7 @@
 // Lines, as their bytes come in: a line may end in a later chunk than it began in.
-ghost use mathlib.Core.Path.{_≡_};
-ghost use mathlib.Core.List.{[], _∷_, _++_};
 ghost use Prim.Native.Nat.{_≤_};
 ghost use lib.ListN.{length, take};
-ghost use Rattle.journal.specs.TakenIn.{TookIn};
+ghost use Rattle.journal.specs.TakenIn.{Lengthened, TookIn};
 
 // What was taken from a chunk: how much of the line there is now, how many bytes were read, and whether the line is whole.
 pub struct Taken {
@@ -15,7 +13,7 @@ pub struct Taken {
 // One byte more of a line. Of a line that is too long the first 262,145 bytes are kept: no statement is that long.
 fn lengthen(line: &mut [u8], used: usize, b: u8) -> usize
     requires { ⌜ (262145 ≤ length (now line)) × (used ≤ 262145) ⌝ }
-    ensures { λ r. ⌜ (take r (now (line .exit)) ≡ take 262145 (take used (now (line .entry)) ++ (b ∷ []))) × (r ≤ 262145) ⌝ }
+    ensures { λ r. ⌜ Lengthened (take used (now (line .entry))) b (take r (now (line .exit))) r ⌝ }
 {
     if used < 262145 {
         line[used] = b;

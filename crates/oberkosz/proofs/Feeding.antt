@@ -101,10 +101,7 @@ module _ (task : Task) (p r : Place) (standing ended standing′ ended′ : List
 module _ (task : Task) (p : Place) (line chunk line′ : List ℕ) (b : Bool) (eaten used : ℕ) (t : TookIn (take (p .used) line) chunk b eaten (take used line′) used) (standing ended : List ℕ) where
   -- the line so far
   line-so : {x : Auditing} → At task p line standing ended x → take used line′ ≡ take 262145 (x .replaying .line ++ beforeEnd chunk)
-  line-so {x} a =
-      t .kept
-      ∙ (ap (λ l. take 262145 (l ++ beforeEnd chunk)) (a .kept)
-      ∙ cut-twice 262145 (x .replaying .line) (beforeEnd chunk))
+  line-so {x} a = t .kept ∙ cut-twice 262145 (x .replaying .line) (beforeEnd chunk) (a .kept)
 
   pub fed-part : b ≡ false → {q : Place} → q .state ≡ p .state → q .number ≡ p .number → q .used ≡ used → q .going ≡ p .going → q .grounds ≡ p .grounds → {x : Auditing} → At task p line standing ended x → At task q line′ standing ended (fed (inquiryOf task) x (take eaten chunk))
   fed-part e {q} same number size going grounds {x} a =

@@ -13,5 +13,5 @@ lengthen-spec =
     (λ c. omega arith)
     (λ c. omega arith)
     (λ c. search needs)
-    (λ c. let start = c .before in (longer (now (start .args .line)) (start .args .used) (start .args .b) (start .pre .0) (c .if1 .taken), omega arith))
-    (λ c. let start = c .before in (too-long (now (start .args .line)) (start .args .used) (start .args .b) (start .pre .0) (start .pre .1) (c .if1 .left), start .pre .1)))
+    (λ c. let start = c .before in record { kept = longer (now (start .args .line)) (start .args .used) (start .args .b) (start .pre .0) (c .if1 .taken); small = omega arith })
+    (λ c. let start = c .before in record { kept = too-long (now (start .args .line)) (start .args .used) (start .args .b) (start .pre .0) (start .pre .1) (c .if1 .left); small = start .pre .1 }))

@@ -37,6 +37,6 @@ take-in-spec =
     let other = grown .before .before in
     let test = other .before .before in
     let v = test .before .loop .inv in
-    (v .0, taking-more (v .1) (test .loop-test .taken) (ne-eqb _ _ (other .if1 .left)) (search needs) (grown .lengthen .ensures .0) (grown .lengthen .ensures .1)))
+    (v .0, taking-more (v .1) (test .loop-test .taken) (ne-eqb _ _ (other .if1 .left)) (search needs) (grown .lengthen .ensures)))
     (λ c. c .before .loop .inv .1 .long)
     (λ c. taking-all (c .before .loop .inv .1) (c .loop-test .left)))
