@@ -21,8 +21,8 @@ use Rattle.paper.specs.declared.state.Ace.{Ace}
 use Rattle.paper.specs.declared.state.Token.{Token}
 use Rattle.paper.specs.declared.state.ProxyLun.{ProxyLun}
 use Rattle.paper.specs.declared.state.Coordinator.{Coordinator}
-use Rattle.journal.specs.Texts.{decimalText, byteText, hexText, colonText, commaText, spaceText, endText}
-use Rattle.acl.specs.Words.{onText, offText, initiatorsName, unitsName, acesName, tokensName, proxiesName, transportText, notText, enrolledText, pendingText, defaultText, accessText, carriedText, everythingText, requestedText, atText, tokenName, initiatorName, unitName, lunName}
+use Rattle.journal.specs.Texts.{decimalText, byteText, hexText, unitName, colonText, commaText, spaceText, endText}
+use Rattle.acl.specs.Words.{onText, offText, initiatorsName, unitsName, acesName, tokensName, proxiesName, transportText, notText, enrolledText, pendingText, defaultText, accessText, carriedText, everythingText, requestedText, atText, tokenName, initiatorName, lunName}
 
 -- ---- what lines name
 

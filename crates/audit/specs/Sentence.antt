@@ -5,7 +5,7 @@ use mathlib.Core.Bool.{Bool, true, false, cond, not, _&&_}
 use lib.ListN.{length, getD}
 use lib.Dec.{eqb, ltb}
 use Rattle.lists.specs.Lists.{any, keep, gather, below}
-use Rattle.journal.specs.Texts.{decimalText, byteText, commaText, endText}
+use Rattle.journal.specs.Texts.{decimalText, byteText, unitName, commaText, endText}
 use Rattle.audit.specs.Ledger.{endedSize, standingSize, runsOf}
 use Rattle.audit.specs.Cells.{isShown}
 use Rattle.audit.specs.declared.cells.Asked.{Asked}
@@ -59,10 +59,6 @@ wasText = 0x20 ∷ 0x77 ∷ 0x61 ∷ 0x73 ∷ 0x20 ∷ 0x70 ∷ 0x65 ∷ 0x6E �
 -- " were pending: they could not."
 abbrev pub wereText : List ℕ
 wereText = 0x20 ∷ 0x77 ∷ 0x65 ∷ 0x72 ∷ 0x65 ∷ 0x20 ∷ 0x70 ∷ 0x65 ∷ 0x6E ∷ 0x64 ∷ 0x69 ∷ 0x6E ∷ 0x67 ∷ 0x3A ∷ 0x20 ∷ 0x74 ∷ 0x68 ∷ 0x65 ∷ 0x79 ∷ 0x20 ∷ 0x63 ∷ 0x6F ∷ 0x75 ∷ 0x6C ∷ 0x64 ∷ 0x20 ∷ 0x6E ∷ 0x6F ∷ 0x74 ∷ 0x2E ∷ []
-
--- "unit "
-abbrev pub unitWord : List ℕ
-unitWord = 0x75 ∷ 0x6E ∷ 0x69 ∷ 0x74 ∷ 0x20 ∷ []
 
 -- " (default LUN "
 abbrev pub defaultText : List ℕ
@@ -123,7 +119,7 @@ unfoldable pub pastText : Asked → List ℕ
 pastText a = cond (ltb (a .last) (a .to)) (endsAtText ++ (decimalText (a .last) ++ closeText)) []
 
 unfoldable pub unitPart : ℕ → Bool → ℕ → List ℕ
-unitPart unit there nn = unitWord ++ (decimalText unit ++ placeText there nn)
+unitPart unit there nn = unitName ++ (decimalText unit ++ placeText there nn)
 
 unfoldable pub linesPart : Asked → List ℕ
 linesPart a = linesText ++ (decimalText (a .from) ++ (toText ++ (decimalText (a .to) ++ pastText a)))
