@@ -71,22 +71,22 @@ pub fn command_standing(
     if list.len() != owed(cdb) {
         return outcomes::handed_back(c, Answer::Refused(Refusal::BadParameters), 0);
     }
-    let asked = reading::command_of(c.enabled, cdb, list);
-    match asked {
-        Command::Denied(k) => outcomes::checked(c, k),
-        Command::Report => report_acl(c, cdb, reply),
-        Command::Request(l) => tokening::request_token(c, initiator, l, random, reply),
-        Command::Out(o) => match o {
-            OutOrder::Manage => command::manage_acl(c, list),
-            OutOrder::Disable(key) => switching::disable(c, key),
-            OutOrder::Enroll => enrolling::enroll(c, initiator, list),
-            OutOrder::Cancel => enrolling::cancel(c, initiator),
-            OutOrder::Revoke(n) => tokening::revoke(c, initiator, n),
-            OutOrder::RevokeAll(l) => tokening::revoke_all(c, initiator, l),
-            OutOrder::Assign(n, l) => proxying::assign(c, initiator, n, l),
-            OutOrder::Release(l) => proxying::release(c, initiator, l),
-            OutOrder::NoAction => switching::no_action(c),
-        },
+    let order = match reading::command_of(c.enabled, cdb, list) {
+        Command::Denied(k) => return outcomes::checked(c, k),
+        Command::Report => return report_acl(c, cdb, reply),
+        Command::Request(l) => return tokening::request_token(c, initiator, l, random, reply),
+        Command::Out(o) => o,
+    };
+    match order {
+        OutOrder::Manage => command::manage_acl(c, list),
+        OutOrder::Disable(key) => switching::disable(c, key),
+        OutOrder::Enroll => enrolling::enroll(c, initiator, list),
+        OutOrder::Cancel => enrolling::cancel(c, initiator),
+        OutOrder::Revoke(n) => tokening::revoke(c, initiator, n),
+        OutOrder::RevokeAll(l) => tokening::revoke_all(c, initiator, l),
+        OutOrder::Assign(n, l) => proxying::assign(c, initiator, n, l),
+        OutOrder::Release(l) => proxying::release(c, initiator, l),
+        OutOrder::NoAction => switching::no_action(c),
     }
 }
 

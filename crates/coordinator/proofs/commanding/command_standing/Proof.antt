@@ -96,10 +96,21 @@ command-standing-spec =
     (λ c κs. search needs)
     (λ c. search needs)
     (λ c κs. search needs)
+    (λ c.
+    let told = c .before .before in
+    answered (told .before .before) (Denied _) (told .k .given .1) (c .checked .ensures, refl))
     (λ c. search needs)
     (λ c κs. ready (c .before .before .before) .0)
     (λ c. search needs)
+    (λ c.
+    let told = c .before .before .before .before in
+    answered (told .before .before) Report (told .enum-told .given .1) (c .before .before .report-acl .ensures))
+    (λ c. search needs)
     (λ c κs. ready (c .before .before .before .before) .1)
+    (λ c. search needs)
+    (λ c.
+    let told = c .before .before .before .before .before in
+    answered (told .before .before) (Request _) (told .l .given .1) (c .before .before .request-token .ensures))
     (λ c. search needs)
     (λ c. search needs)
     (λ c κs. ready (c .before .before .before .before .before) .0)
@@ -120,40 +131,29 @@ command-standing-spec =
     (λ c. search needs)
     (λ c κs. search needs)
     (λ c.
+    let told = c .before in
+    obeyed-so (told .before .before) Manage (told .enum-told2 .given .1) (told .before .before .before .o .given .1) (c .manage-acl .ensures))
+    (λ c.
     let told = c .before .before in
-    answered (told .before .before) (Denied _) (told .asked .given .1) (c .checked .ensures, refl))
-    (λ c. search needs)
-    (λ c.
-    let told = c .before .before .before .before in
-    answered (told .before .before) Report (told .enum-told .given .1) (c .before .before .report-acl .ensures))
-    (λ c. search needs)
-    (λ c.
-    let told = c .before .before .before .before .before in
-    answered (told .before .before) (Request _) (told .asked2 .given .1) (c .before .before .request-token .ensures))
+    obeyed-so (told .before .before) (Disable _) (told .order .given .1) (told .before .before .before .o .given .1) (c .disable .ensures))
     (λ c.
     let told = c .before in
-    obeyed-so (told .before .before) Manage (told .enum-told2 .given .1) (told .before .before .before .asked3 .given .1) (c .manage-acl .ensures))
-    (λ c.
-    let told = c .before .before in
-    obeyed-so (told .before .before) (Disable _) (told .o .given .1) (told .before .before .before .asked3 .given .1) (c .disable .ensures))
+    obeyed-so (told .before .before) Enroll (told .enum-told3 .given .1) (told .before .before .before .o .given .1) (c .enroll .ensures))
     (λ c.
     let told = c .before in
-    obeyed-so (told .before .before) Enroll (told .enum-told3 .given .1) (told .before .before .before .asked3 .given .1) (c .enroll .ensures))
+    obeyed-so (told .before .before) Cancel (told .enum-told4 .given .1) (told .before .before .before .o .given .1) (c .cancel .ensures))
+    (λ c.
+    let told = c .before .before in
+    obeyed-so (told .before .before) (Revoke _) (told .order2 .given .1) (told .before .before .before .o .given .1) (c .revoke .ensures))
+    (λ c.
+    let told = c .before .before in
+    obeyed-so (told .before .before) (RevokeAll _) (told .order3 .given .1) (told .before .before .before .o .given .1) (c .revoke-all .ensures))
+    (λ c.
+    let told = c .before .before in
+    obeyed-so (told .before .before) (Assign _ _) (told .order4 .given .1) (told .before .before .before .o .given .1) (c .assign .ensures))
+    (λ c.
+    let told = c .before .before in
+    obeyed-so (told .before .before) (Release _) (told .order5 .given .1) (told .before .before .before .o .given .1) (c .release .ensures))
     (λ c.
     let told = c .before in
-    obeyed-so (told .before .before) Cancel (told .enum-told4 .given .1) (told .before .before .before .asked3 .given .1) (c .cancel .ensures))
-    (λ c.
-    let told = c .before .before in
-    obeyed-so (told .before .before) (Revoke _) (told .o2 .given .1) (told .before .before .before .asked3 .given .1) (c .revoke .ensures))
-    (λ c.
-    let told = c .before .before in
-    obeyed-so (told .before .before) (RevokeAll _) (told .o3 .given .1) (told .before .before .before .asked3 .given .1) (c .revoke-all .ensures))
-    (λ c.
-    let told = c .before .before in
-    obeyed-so (told .before .before) (Assign _ _) (told .o4 .given .1) (told .before .before .before .asked3 .given .1) (c .assign .ensures))
-    (λ c.
-    let told = c .before .before in
-    obeyed-so (told .before .before) (Release _) (told .o5 .given .1) (told .before .before .before .asked3 .given .1) (c .release .ensures))
-    (λ c.
-    let told = c .before in
-    obeyed-so (told .before .before) NoAction (told .enum-told5 .given .1) (told .before .before .before .asked3 .given .1) (c .no-action .ensures)))
+    obeyed-so (told .before .before) NoAction (told .enum-told5 .given .1) (told .before .before .before .o .given .1) (c .no-action .ensures)))
