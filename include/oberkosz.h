@@ -26,8 +26,8 @@
  * Initiators and units are numbered from 0 in setup order.
  *
  * WHAT IT NEEDS. x86-64 with the System V calling convention; of the C library memcpy and
- * memset alone; and stack, which is measured and not proved: some 100 KB for a command
- * (MANAGE ACL takes the most), some 30 KB for oberkosz_route_standing.
+ * memset alone; and stack, which is measured and not proved: some 85 KB for a command
+ * (MANAGE ACL takes the most), some 25 KB for oberkosz_route_standing.
  */
 #ifndef OBERKOSZ_H
 #define OBERKOSZ_H
