@@ -1,6 +1,6 @@
 -- The auditor's table rests on demand 3: whatever the input, what an audit counts as standing after a line are the rows of the unit in the reach list of the coordinator after that line, and that list names every ground of access that stands by the history since the last setup, and no other.
 use Prim.Native.Nat.{ℕ}
-use mathlib.Core.Path.{_≡_, refl, sym, ap, subst, _∙_}
+use mathlib.Core.Path.{_≡_, refl, sym, subst}
 use mathlib.Core.List.{List, [], _∷_, map}
 use mathlib.Core.Bool.{Bool, true, false, cond}
 use lib.ListN.{length, take}
@@ -18,11 +18,11 @@ use Rattle.paper.specs.declared.state.Coordinator.{Coordinator}
 use Rattle.paper.proofs.Demand3.{always-stands, reach-list}
 use Rattle.journal.specs.Statements.{setup, command, link, route, reach, Line, skipped, said, tooLong, expected, readLine}
 use Rattle.journal.specs.Replay.{stepSaid, stepLine}
-use Rattle.journal.specs.Lines.{isEnd, Replaying, fed as fedReplay, answered as answeredReplay, lengthened as lengthenedReplay}
+use Rattle.journal.specs.Lines.{isEnd, fed as fedReplay, answered as answeredReplay, lengthened as lengthenedReplay}
 use Rattle.journal.specs.Reached.{Reached}
 use Rattle.journal.proofs.ReplayRuns.{reach-keeps, nothing-reached, step-reached}
 use Rattle.audit.specs.Deeds.{doneBy}
-use Rattle.audit.specs.Ledger.{deedBytes, forgotten, rowsAfter, runsOf}
+use Rattle.audit.specs.Ledger.{deedBytes, forgotten, runsOf}
 use Rattle.audit.specs.Following.{Kept, changedBy, followed, Auditing, begun, answered, lengthened, fed, ended}
 use Rattle.audit.specs.declared.following.Inquiry.{Inquiry}
 use Rattle.audit.proofs.Grounds.{deed-size}

@@ -1,7 +1,7 @@
 -- What REQUEST PROXY TOKEN comes to, by the row that its LUN has and the room that there is; and the token that it issues.
 use Prim.Native.Nat.{ℕ, _<_}
-use mathlib.Core.Path.{_≡_, refl, ap, sym, _∙_}
-use mathlib.Core.List.{List, [], _∷_}
+use mathlib.Core.Path.{_≡_, refl}
+use mathlib.Core.List.{List}
 use mathlib.Core.Option.{Option, some, none}
 use mathlib.Core.Bool.{Bool, true, false, cond, not, _||_}
 use native.Mathlib.Omega.{arith}
@@ -9,7 +9,6 @@ use lib.ListN.{length}
 use lib.Dec.{eqb, leb, ltb}
 use borrow.Author.Tests.{leb-false}
 use Rattle.lists.specs.Lists.{isSome}
-use Rattle.lists.specs.Bytes.{beBytes, deliver}
 use Rattle.lists.proofs.Bytes.{bytes-length}
 use Rattle.lists.proofs.Tests.{split, or-false}
 use Rattle.wire.specs.Lun.{headOf}

@@ -1,7 +1,7 @@
 -- A statement asks for a lent buffer of at most 65,536 bytes.
 use Prim.Native.Nat.{ℕ, _≤_}
 use mathlib.Core.Path.{_≡_, refl}
-use mathlib.Core.Bool.{Bool, true, false, cond, not, _&&_, _||_}
+use mathlib.Core.Bool.{Bool, true, not, _||_}
 use mathlib.Core.List.{List}
 use native.Mathlib.Omega.{arith}
 use lib.ListN.{length, getD}
@@ -9,8 +9,8 @@ use lib.Dec.{eqb, leb, ltb}
 use borrow.Author.Tests.{leb-true}
 use Rattle.lists.proofs.Tests.{split, both, and-true}
 use Rattle.journal.specs.Words.{nextWord, restOf, hasWord}
-use Rattle.journal.specs.Kinds.{isBytes, bytesOf, isList, isNumber, isBuffer, decimalOf, isDigits, digitsOf}
-use Rattle.journal.specs.Statements.{Said, setup, command, link, route, reach, Line, skipped, said, tooLong, expected, needs, ending, readSetup, readLent, readList, readCommand, readLink, readRoute, readReach, isWord, setupWord, commandWord, linkWord, routeWord, reachWord, readStatement, withoutCr, readKept, readLine, lentBy}
+use Rattle.journal.specs.Kinds.{isBytes, isList, isNumber, isBuffer, decimalOf, isDigits}
+use Rattle.journal.specs.Statements.{Line, needs, readSetup, readLent, readList, readCommand, readLink, readRoute, readReach, isWord, setupWord, commandWord, linkWord, routeWord, reachWord, readStatement, withoutCr, readKept, readLine, lentBy}
 use Rattle.journal.specs.declared.statement.Kind.{Kind}
 
 data Small (l : Line) : Type 0 where

@@ -1,6 +1,6 @@
 -- Every state of a replay is one that demand 3 speaks of: the calls since the last setup made it, from an accepted setup. A refused setup leaves the state of an accepted one, which lists nothing.
 use Prim.Native.Nat.{ℕ}
-use mathlib.Core.Path.{_≡_, refl, sym, ap, subst, _∙_}
+use mathlib.Core.Path.{_≡_, refl, sym, subst}
 use mathlib.Core.List.{List, [], _∷_}
 use mathlib.Core.Bool.{true, cond}
 use lib.ListN.{length, length-replicate}
@@ -9,7 +9,7 @@ use Rattle.lists.specs.Lists.{all, pairs, parts}
 use Rattle.lists.proofs.Tests.{split, both}
 use Rattle.paper.specs.Setup.{setupRules, idsIn, lunsIn, accepted}
 use Rattle.paper.specs.Fresh.{nothing, fresh, started}
-use Rattle.paper.specs.Outcomes.{decideCommand, decideLink, decideReach, inRoom, outcomeOf, bufferAfter}
+use Rattle.paper.specs.Outcomes.{decideCommand, decideReach, outcomeOf}
 use Rattle.paper.specs.Applied.{appliedAll}
 use Rattle.paper.specs.Standing.{standing}
 use Rattle.paper.specs.Reports.{reachBytes}

@@ -2,12 +2,12 @@
 use Prim.Native.Nat.{ℕ, _+_}
 use mathlib.Core.List.{List, [], _∷_, _++_}
 use mathlib.Core.Bool.{Bool, cond}
-use lib.ListN.{length, take}
+use lib.ListN.{length}
 use lib.Dec.{eqb}
 use Rattle.paper.specs.Fresh.{nothing, fresh}
 use Rattle.paper.specs.declared.state.Coordinator.{Coordinator}
 use Rattle.journal.specs.Statements.{readLine}
-use Rattle.journal.specs.Replay.{Step, stepLine}
+use Rattle.journal.specs.Replay.{stepLine}
 
 abbrev pub isEnd : ℕ → Bool
 isEnd b = eqb b 0x0A

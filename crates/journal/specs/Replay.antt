@@ -1,8 +1,8 @@
 -- A line of a journal answered: the next state, and the text of the answer.
-use Prim.Native.Nat.{ℕ, suc, _+_}
-use mathlib.Core.List.{List, [], _∷_, _++_}
+use Prim.Native.Nat.{ℕ, _+_}
+use mathlib.Core.List.{List, [], _++_}
 use mathlib.Core.Bool.{Bool, cond, not}
-use lib.ListN.{length, take, drop, replicate}
+use lib.ListN.{take, drop, replicate}
 use lib.Dec.{eqb}
 use Rattle.lists.specs.Lists.{all, placeOf}
 use Rattle.paper.specs.Answers.{senseOf, numberOf}

@@ -1,5 +1,4 @@
 // The words of answers, into a lent buffer: what is answered, and what is told of a line that is no statement.
-ghost use mathlib.Core.Path.{_≡_};
 ghost use mathlib.Core.List.{_++_};
 ghost use Prim.Native.Nat.{_+_, _≤_};
 ghost use Rattle.wire.specs.Write.{Wrote};

@@ -22,7 +22,7 @@ use Rattle.paper.specs.declared.state.IdType.{IdType}
 use Rattle.paper.specs.declared.state.IdType.the-variants.{AccessId, TransportId}
 use Rattle.paper.specs.declared.state.Descriptor.{Descriptor}
 use Rattle.paper.specs.declared.state.Coordinator.{Coordinator}
-use Rattle.manage.specs.EndState.{inOrder, enrolledBy, removes, endsAs, endsUnder, initiatorsBy, initiatorsAfter, liveBy, liveAfter, liveOf, grantedWith, revokedBy, endWith, endState}
+use Rattle.manage.specs.EndState.{inOrder, enrolledBy, removes, endsAs, endsUnder, initiatorsBy, initiatorsAfter, liveBy, liveAfter, liveOf, grantedWith, revokedBy, endState}
 use Rattle.manage.proofs.Marks.{length-descriptors}
 use Rattle.manage.proofs.Grants.{aclBy, acl-pages}
 

@@ -18,7 +18,7 @@ use Rattle.paper.specs.declared.state.Initiators.{Initiators}
 use Rattle.paper.specs.declared.state.Coordinator.{Coordinator}
 use Rattle.paper.specs.declared.answers.Condition.the-variants.{WrongLength, WrongKey, BadList, BadLun, Clash, NoRoom}
 use Rattle.paper.specs.declared.answers.Answer.the-variants.{Good}
-use Rattle.manage.specs.EndState.{inOrder, endsUnder, initiatorsBy, initiatorsAfter, acesAfter, crowded, grantedWith, revokedBy, endWith, endState}
+use Rattle.manage.specs.EndState.{inOrder, endsUnder, initiatorsBy, initiatorsAfter, acesAfter, crowded, grantedWith, revokedBy, endState}
 use Rattle.manage.specs.Phases.{Passed, answerTo}
 use Rattle.manage.proofs.EndState.{end-state}
 use Rattle.manage.proofs.Room.{too-many}

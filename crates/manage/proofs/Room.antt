@@ -21,7 +21,7 @@ use Rattle.paper.specs.declared.state.Ace.{Ace}
 use Rattle.paper.specs.declared.state.Acl.{Acl}
 use Rattle.paper.specs.declared.state.Coordinator.{Coordinator}
 use Rattle.manage.specs.declared.aces.Aces.{Aces}
-use Rattle.manage.specs.EndState.{unnamed, newAces, acesAfter, aclAfter, crowded, grantedWith, revokedBy, endWith, endState}
+use Rattle.manage.specs.EndState.{unnamed, newAces, acesAfter, aclAfter, crowded, grantedWith, revokedBy, endState}
 use Rattle.manage.specs.Aces.{Uncrowded, Sized, fitting, fitted, fittedAfter}
 use Rattle.manage.proofs.Grants.{aces-none}
 

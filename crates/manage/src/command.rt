@@ -1,15 +1,14 @@
 // MANAGE ACL: the six phases over the whole list, the first that fails answering, and the end state.
 ghost use mathlib.Core.Path.{_≡_};
 ghost use mathlib.Core.List.{[]};
-ghost use mathlib.Core.Bool.{true, not, _&&_};
+ghost use mathlib.Core.Bool.{true};
 ghost use Prim.Native.Nat.{_≤_};
 ghost use lib.ListN.{take};
-ghost use lib.Dec.{eqb};
 ghost use Rattle.paper.specs.Tables.{unitsOf};
 ghost use Rattle.paper.specs.Standing.{standing};
-ghost use Rattle.paper.specs.Pages.{keyIn, acePages, manageEffects};
+ghost use Rattle.paper.specs.Pages.{acePages, manageEffects};
 ghost use Rattle.paper.specs.Commands.{manageTests};
-ghost use Rattle.paper.specs.Outcomes.{check, good, judged, outcomeOf};
+ghost use Rattle.paper.specs.Outcomes.{good, judged, outcomeOf};
 ghost use Rattle.manage.specs.EndState.{grantedWith, revokedBy};
 ghost use Rattle.manage.specs.Aces.{Sized, fittedAfter};
 ghost use Rattle.manage.specs.Phases.{Passed, answerTo};

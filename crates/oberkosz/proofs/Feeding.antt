@@ -14,13 +14,12 @@ use Rattle.lists.proofs.Tests.{split, clashes, or-false, and-true}
 use Rattle.lists.proofs.Members.{place-some, place-none}
 use Rattle.paper.specs.Fresh.{nothing, fresh, started}
 use Rattle.paper.specs.Setup.{accepted, idsIn, lunsIn}
-use Rattle.paper.specs.declared.state.Coordinator.{Coordinator}
-use Rattle.journal.specs.Lines.{isEnd, Replaying}
+use Rattle.journal.specs.Lines.{isEnd}
 use Rattle.journal.specs.TakenIn.{beforeEnd, TookIn}
-use Rattle.journal.specs.Statements.{Line, readLine}
+use Rattle.journal.specs.Statements.{readLine}
 use Rattle.journal.specs.Replay.{stepLine}
 use Rattle.journal.proofs.Taking.{cut-twice}
-use Rattle.audit.specs.Following.{Kept, keptIn, followed, Auditing, answered, lengthened, fed, ended}
+use Rattle.audit.specs.Following.{keptIn, followed, Auditing, answered, lengthened, fed, ended}
 use Rattle.audit.specs.declared.following.Inquiry.{Inquiry}
 use Rattle.oberkosz.specs.Places.{isAudit, inquiryOf, At}
 use Rattle.oberkosz.specs.declared.step.Task.{Task}

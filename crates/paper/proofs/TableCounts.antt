@@ -1,5 +1,4 @@
 -- The counts of tokens and proxy LUNs are the numbers of their entries in every state of a run: each change writes the entries in use and their number.
-use Prim.Native.Nat.{ℕ}
 use mathlib.Core.Path.{_≡_, refl, ap, sym}
 use mathlib.Core.List.{List, [], _∷_, _++_}
 use mathlib.Core.Bool.{Bool, true, false}

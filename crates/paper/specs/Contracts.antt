@@ -4,7 +4,7 @@ use mathlib.Core.Path.{_≡_}
 use mathlib.Core.List.{List, [], _∷_}
 use lib.ListN.{length}
 use Rattle.paper.specs.Fresh.{started}
-use Rattle.paper.specs.Outcomes.{Decision, decideCommand, decideLink, decideReach, outcomeOf, bufferAfter, routed, openingOf}
+use Rattle.paper.specs.Outcomes.{decideCommand, decideLink, decideReach, outcomeOf, bufferAfter, routed, openingOf}
 use Rattle.paper.specs.Runs.{command, link, Entry}
 use Rattle.paper.specs.declared.state.Coordinator.{Coordinator}
 use Rattle.paper.specs.declared.outcomes.Outcome.{Outcome}

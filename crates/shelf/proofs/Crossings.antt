@@ -6,7 +6,6 @@ use mathlib.Core.Bool.{Bool, true, false}
 use Rattle.lists.specs.Lists.{all}
 use Rattle.lists.proofs.Tests.{split, and-true}
 use Rattle.lists.proofs.Members.{all-map, in-all}
-use Rattle.paper.specs.Answers.{valuesOf}
 use Rattle.paper.specs.Outcomes.{Decision, refuse, check, good, outcomeOf}
 use Rattle.paper.proofs.Unchanged.{unchanged}
 use Rattle.paper.specs.declared.state.IdType.{IdType}

@@ -1,13 +1,11 @@
 // ACEs made, put into the ACL and taken out of it.
 ghost use mathlib.Core.Path.{_≡_};
-ghost use mathlib.Core.List.{[], _∷_, _++_};
 ghost use Prim.Native.Nat.{_<_};
 ghost use lib.ListN.{take};
-ghost use Rattle.lists.specs.Lists.{keep, isSome};
+ghost use Rattle.lists.specs.Lists.{isSome};
 ghost use Rattle.paper.specs.Contents.{these, everything};
-ghost use Rattle.paper.specs.Tables.{aceOf, aclOf};
+ghost use Rattle.paper.specs.Tables.{aceOf};
 ghost use Rattle.paper.specs.Rows.{aceFor};
-ghost use Rattle.paper.specs.Applied.{otherAce};
 use crate::lookups;
 use paper::state;
 use paper::state::Ace;

@@ -3,7 +3,7 @@ ghost use mathlib.Core.Path.{_≡_};
 ghost use mathlib.Core.List.{[], _∷_, _++_};
 ghost use Prim.Native.Nat.{_<_, _≤_};
 ghost use Rattle.paper.specs.Tables.{tokensOf, enrolmentsOf, withTokens, withEnrolments};
-ghost use Rattle.paper.specs.Effects.{switched, turnedOn, turnedOff, keyed, tokening, ended, proxying, assigned, released};
+ghost use Rattle.paper.specs.Effects.{switched, turnedOff, tokening, ended, proxying, assigned, released};
 ghost use Rattle.paper.specs.Applied.{applied};
 ghost use Rattle.tables.specs.Changes.{changed};
 ghost use Rattle.tables.specs.Endings.{endingOf};

@@ -1,9 +1,8 @@
 -- A LUN of another form is taken; otherwise every row of the caller is asked.
-use mathlib.Core.Path.{_∙_, sym, ap}
+use mathlib.Core.Path.{_∙_, sym}
 use Rattle.lists.proofs.Tables.{take-pad}
 use Rattle.rows.specs.Table.{noRow}
 use Rattle.paper.specs.Rows.{rowsOf}
-use Rattle.wire.specs.Lun.{lunForm}
 use borrow.Author.Needs.{needs}
 use Rattle.commands.proofs.proxying.is_taken.Statement.{statement}
 use Rattle.commands.proofs.proxying.is_taken.Tie as tie

@@ -1,5 +1,5 @@
 -- A short buffer is refused before a byte is written; otherwise the eight bytes go to its start.
-use mathlib.Core.Path.{_≡_, sym, _∙_}
+use mathlib.Core.Path.{sym}
 use lib.Seq.{take-all}
 use native.Mathlib.Omega.{arith}
 use borrow.Author.Tests.{lt-ltb, le-ltb}

@@ -1,5 +1,5 @@
 -- A request that is denied changes nothing; one that passes issues the token of that unit.
-use mathlib.Core.Path.{_≡_, sym, _∙_}
+use mathlib.Core.Path.{sym, _∙_}
 use Rattle.paper.specs.Grounds.{isTA}
 use Rattle.paper.specs.Rows.{rowsOf, rowWith}
 use Rattle.paper.specs.Applied.{unitIn}

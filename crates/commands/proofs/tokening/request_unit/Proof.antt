@@ -1,9 +1,8 @@
 -- The row of the LUN is looked for first; with one, room and number decide.
-use mathlib.Core.Path.{_≡_, sym, ap, _∙_}
-use mathlib.Core.Option.{none, some}
+use mathlib.Core.Path.{sym, _∙_}
 use Rattle.lists.proofs.Tables.{take-pad}
 use Rattle.paper.specs.Grounds.{isTA}
-use Rattle.paper.specs.Rows.{rowsOf, rowWith, pendingHas}
+use Rattle.paper.specs.Rows.{rowsOf, rowWith}
 use Rattle.paper.specs.Applied.{unitIn}
 use Rattle.rows.specs.Table.{noRow}
 use Rattle.commands.proofs.Requesting.{none-found, some-found, closed, crowded, roomy}

@@ -1,7 +1,6 @@
 -- The length is tested as the definition tests it.
 use borrow.Author.Tests.{eq-eqb, ne-eqb}
 use Rattle.paper.specs.Orders.{exactly}
-use borrow.Author.Needs.{needs}
 use Rattle.coordinator.proofs.reading.exactly.Statement.{statement}
 use Rattle.coordinator.proofs.reading.exactly.Tie as tie
 

@@ -1,7 +1,6 @@
 -- Length 0 is the only one.
 use borrow.Author.Tests.{eq-eqb, ne-eqb}
 use Rattle.paper.specs.Orders.{readCancel}
-use borrow.Author.Needs.{needs}
 use Rattle.coordinator.proofs.reading.read_cancel.Statement.{statement}
 use Rattle.coordinator.proofs.reading.read_cancel.Tie as tie
 

@@ -1,7 +1,6 @@
 -- Length 0 does nothing, and 28 is the least of the others.
 use borrow.Author.Tests.{eq-eqb, ne-eqb, lt-ltb, le-ltb}
 use Rattle.paper.specs.Orders.{readManage}
-use borrow.Author.Needs.{needs}
 use Rattle.coordinator.proofs.reading.read_manage.Statement.{statement}
 use Rattle.coordinator.proofs.reading.read_manage.Tie as tie
 

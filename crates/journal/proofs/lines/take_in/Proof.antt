@@ -1,6 +1,5 @@
 -- What is left of the chunk decides: each turn takes its first byte into the line, or ends the line there.
 use Prim.Native.Nat.{_-_, _≤_}
-use mathlib.Core.Path.{_≡_}
 use native.Mathlib.Omega.{arith}
 use borrow.Author.Needs.{needs}
 use borrow.Author.Tests.{eq-eqb, ne-eqb}

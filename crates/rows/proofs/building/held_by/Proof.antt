@@ -7,7 +7,7 @@ use mathlib.Core.List.{[]}
 use lib.ListN.{take, drop}
 use Rattle.lists.specs.Lists.{find}
 use Rattle.lists.proofs.Walk.{Scan, scan-none, scan-more, scan-cons, scan-nil, length-mapped}
-use Rattle.paper.specs.Rows.{isFor, aceFor}
+use Rattle.paper.specs.Rows.{aceFor}
 use Rattle.paper.specs.declared.state.IdType.the-variants.{AccessId}
 use Rattle.paper.specs.declared.state.Extent.the-variants.{Listed}
 use Rattle.paper.specs.declared.state.Ace.{Ace}
