@@ -48,21 +48,23 @@ pub fn clash_in(rows: Rows) -> bool
     let given = rows.count;
     let count = capped(given, 96);
     let items = rows.items;
+    let mut found = false;
     let mut i = 0;
-    while i < count {
+    'search: while i < count {
         let a = items[i];
         let next = i + 1;
         let mut j = next;
         while j < count {
             let b = items[j];
             if clashing_rows(a, b) {
-                return true;
+                found = true;
+                break 'search;
             }
             j += 1;
         }
         i = next;
     }
-    false
+    found
 }
 
 // "some initiator has a clash"
