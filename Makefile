@@ -1,7 +1,7 @@
 # `make audit` shows the audit of the example; `make picture` draws it; `make test` is the gate.
 # `make check` proves what changed since the last check; `make lists` runs the second program's part alone;
 # `make fuzz SEED=n [RUNS=100]` holds the proved program to the second one on fresh journals;
-# `make bench` counts what the standing rules, every call and a replay cost (docs/PERFORMANCE.md). Neither is part of the gate.
+# `make bench` measures what the standing rules, every call, from C too, and a replay cost (docs/PERFORMANCE.md). Neither is part of the gate.
 # `make lib` puts the C library and its header into target/lib; `make install PREFIX=/usr/local` installs both, with a
 # pkg-config file, and the program.
 .PHONY: audit picture test check lists fuzz bench fmt lib install
