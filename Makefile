@@ -30,8 +30,9 @@ fuzz:
 bench:
 	tests/bench
 	tests/bench-growth
-	tests/bench-journal
 	tests/bench-c
+	@tools/build
+	tests/bench-journal
 
 fmt:
 	rt fmt
