@@ -1,4 +1,6 @@
 // The state of a coordinator in words, written into a lent buffer.
+#![tactic(auto)]
+
 pub mod granted;
 pub mod initiators;
 pub mod naming;

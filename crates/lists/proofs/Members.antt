@@ -74,6 +74,7 @@ place_in d (there h) = let r = place_in d h in (suc r.0, omega (arith, r.1), r.2
 module _ {A : Type 0} (p : A → Bool) where
   pub in_keep : {x : A} {l : List A} → x ∈ l → p x ≡ true → x ∈ keep p l
   unfolding keep
+  in_keep {l = []} h e = elim h [ ]
   in_keep {l = y ∷ l} (here h) e = rw (ap p (sym h) ∙ e) (here h)
   in_keep {l = y ∷ l} (there h) e = let k = in_keep h e in split (p y) (λ q. rw q (there k)) (λ q. rw q k)
 
@@ -88,6 +89,7 @@ module _ {A : Type 0} (p : A → Bool) where
 
   pub any_in : {x : A} {l : List A} → x ∈ l → p x ≡ true → any p l ≡ true
   unfolding any
+  any_in {l = []} h e = elim h [ ]
   any_in {l = y ∷ l} (here h) e = rw (ap p (sym h) ∙ e)
   any_in {l = y ∷ l} (there h) e = split (p y) (λ q. rw q) (λ q. rw q (any_in h e))
 
@@ -105,6 +107,7 @@ module _ {A : Type 0} (p : A → Bool) where
 
   pub all_in : {x : A} {l : List A} → all p l ≡ true → x ∈ l → p x ≡ true
   unfolding all
+  all_in {l = []} e h = elim h [ ]
   all_in {l = y ∷ l} e (here h) = ap p h ∙ (and_true (p y) (all p l) e).0
   all_in {l = y ∷ l} e (there h) = all_in (and_true (p y) (all p l) e).1 h
 
@@ -130,11 +133,12 @@ module _ {A : Type 0} (p : A → Bool) where
 
   pub find_none : {x : A} {l : List A} → find p l ≡ none → x ∈ l → p x ≡ false
   unfolding find
+  find_none {l = []} e h = elim h [ ]
   find_none {l = y ∷ l} e h =
       split
       (p y)
       (λ q. absurd (none_not_some (sym (rw q at e))))
-      (λ q. ⊎_elim (λ k. ap p k ∙ q) (λ k. find_none (rw q at e) k) (in_cons h))
+      (λ q. ⊎_elim (λ k. ap p k ∙ q) (λ k. find_none {l = l} (rw q at e) k) (in_cons h))
 
   pub none_find : (l : List A) → ((x : A) → x ∈ l → p x ≡ false) → find p l ≡ none
   unfolding find
@@ -290,6 +294,7 @@ only q (some x) = cond (q x) (some x) none
 module _ {A : Type 0} (p : A → Bool) where
   pub find_once : {x : A} {l : List A} → Once p l → x ∈ l → p x ≡ true → find p l ≡ some x
   unfolding find
+  find_once {l = []} o h e = elim h [ ]
   find_once {l = y ∷ l} o (here h) e = rw (sym (ap p h) ∙ e) (ap some (sym h))
   find_once {l = y ∷ l} o (there h) e =
       split (p y) (λ q. clashes e (any_none p (o.0 q) h)) (λ q. rw q (find_once o.1 h e))

@@ -98,9 +98,9 @@ module _ {A : Type 0} (d : A) (l : List A) (at : ℕ) (xs : List A) (j : ℕ) wh
 -- a table is built by a run at a time
 pub grown_run : {A : Type 0} {b : A} {size : ℕ} {target rest items : List A} {kept : ℕ} (ys : List A) {rest' : List A} → Grown b size target rest items kept → rest ≡ ys ++ rest' → Grown b size target rest' (sets items kept ys) (kept + length ys)
 grown_run {kept = kept} [] g e = rw (add-zero, ← e) g
-grown_run {kept = kept} (y ∷ ys) g e =
+grown_run {A} {b} {size} {target} {rest} {items} {kept} (y ∷ ys) {rest'} g e =
     let f : kept + 1 + length ys ≡ kept + suc (length ys) = omega arith in
-    rw (← f, ← add-one kept) (grown_run ys (grown_step g e) refl)
+    rw (← f, ← add-one kept) (grown_run {rest = ys ++ rest'} ys (grown_step g e) refl)
 
 -- ---- padded with the element that stands past the end: every place reads the same
 module _ {A : Type 0} (b : A) where

@@ -1,4 +1,6 @@
 // MANAGE ACL: the end state, one table at a time, and the command.
+#![tactic(auto)]
+
 pub mod aces;
 pub mod command;
 pub mod enrolments;

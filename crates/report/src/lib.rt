@@ -1,4 +1,6 @@
 // The two reports: REPORT ACL and the reach list, written into the lent buffer.
+#![tactic(auto)]
+
 pub mod granted;
 pub mod identified;
 pub mod ordering;

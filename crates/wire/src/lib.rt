@@ -1,4 +1,6 @@
 // Bytes on the wire: numbers read from and written into lent buffers, LUNs, runs of bytes compared.
+#![tactic(auto)]
+
 ghost use Rattle.std.specs.Prelude.{◌≡◌, [], ◌∷◌, ◌+◌, ◌<◌, ◌≤◌, length, get_or, replicate};
 ghost use Rattle.lists.specs.Bytes.{be, be_bytes, same_bytes, less_bytes};
 ghost use Rattle.wire.specs.Lun.{lun_of, head_of, lun_form};
