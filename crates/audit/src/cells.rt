@@ -6,7 +6,7 @@ ghost use Rattle.audit.specs.Cells.{ground_text, what_text, sender_text, deed_te
 use journal::printing;
 
 // The lines asked for, and the last line of the journal.
-#[derive(Drop)]
+#[derive(Clone, Copy)]
 pub struct Asked {
     pub from: u64,
     pub to: u64,

@@ -8,7 +8,7 @@ use journal::reading;
 use journal::statement::Parsed;
 
 // Whether a line may change what stands, which statement it is (FFh a setup, FEh a link event, else a command's service action), and by whom.
-#[derive(Drop)]
+#[derive(Clone, Copy)]
 pub struct Done {
     pub counts: bool,
     pub what: u8,

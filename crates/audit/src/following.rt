@@ -9,7 +9,7 @@ use crate::{deeds, ledger};
 use paper::state::Coordinator;
 
 // What an auditor asks: of which unit, and from which line to which.
-#[derive(Drop)]
+#[derive(Clone, Copy)]
 pub struct Inquiry {
     pub unit: u8,
     pub from: u64,
@@ -17,14 +17,14 @@ pub struct Inquiry {
 }
 
 // How many bytes the grounds that stand and those that ended take.
-#[derive(Drop)]
+#[derive(Clone, Copy)]
 pub struct Grounds {
     pub standing: usize,
     pub ended: usize,
 }
 
 // The grounds after a line, and whether there is room for them.
-#[derive(Drop)]
+#[derive(Clone, Copy)]
 pub struct Followed {
     pub grounds: Grounds,
     pub fits: bool,

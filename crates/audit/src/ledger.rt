@@ -9,7 +9,7 @@ use coordinator::questions;
 use paper::state::Coordinator;
 
 // What began or ended a ground: which statement (FFh a setup, FEh a link event, else a command's service action), by whom, at which line.
-#[derive(Drop)]
+#[derive(Clone, Copy)]
 pub struct Deed {
     pub what: u8,
     pub by: u8,
@@ -17,7 +17,7 @@ pub struct Deed {
 }
 
 // How many bytes the grounds that stand and those that ended take.
-#[derive(Drop)]
+#[derive(Clone, Copy)]
 pub struct Tracked {
     pub standing: usize,
     pub ended: usize,

@@ -10,7 +10,7 @@ use crate::cells::Asked;
 use journal::printing;
 
 // Initiators, in ascending order.
-#[derive(Drop)]
+#[derive(Clone, Copy)]
 pub struct Names {
     pub items: [u8; 16],
     pub count: usize,

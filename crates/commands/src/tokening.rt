@@ -50,7 +50,7 @@ pub fn is_live(ts: Tokens, n: u64) -> bool
 }
 
 // What a request comes to: a condition, or the unit that the LUN opens.
-#[derive(Drop)]
+#[derive(Clone, Copy)]
 pub enum Requested {
     Denied(Condition),
     Unit(u8),

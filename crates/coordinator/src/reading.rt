@@ -7,7 +7,7 @@ use paper::answers::Condition;
 use paper::state::ID_SIZE;
 
 // The OUT commands. What ENROLL and MANAGE ACL read stands in the parameter bytes.
-#[derive(Drop)]
+#[derive(Clone, Copy)]
 pub enum OutOrder {
     Manage,
     Disable(u64),
@@ -20,14 +20,14 @@ pub enum OutOrder {
     NoAction,
 }
 
-#[derive(Drop)]
+#[derive(Clone, Copy)]
 pub enum OutRead {
     Wrong(Condition),
     Asked(OutOrder),
 }
 
 // A command, where it is in force. What REPORT ACL reads stands in the CDB.
-#[derive(Drop)]
+#[derive(Clone, Copy)]
 pub enum Command {
     Denied(Condition),
     Report,

@@ -12,7 +12,7 @@ use paper::answers::{Answer, Opened};
 use paper::state::Coordinator;
 
 // The next state, and how many bytes of the text buffer the answer line takes.
-#[derive(Drop)]
+#[derive(Clone, Copy)]
 pub struct Answered {
     pub state: Coordinator,
     pub size: usize,

@@ -4,7 +4,7 @@ ghost use Rattle.lists.specs.Lists.{all};
 ghost use Rattle.journal.specs.Kinds.{is_digit, hex_value, is_hex, is_dash, is_bytes, hex_bytes, bytes_of, is_number, decimal_of, is_digits, digits_of};
 
 // A number, if the word is one.
-#[derive(Drop)]
+#[derive(Clone, Copy)]
 pub struct Numbered {
     pub fits: bool,
     pub value: u64,

@@ -3,7 +3,7 @@ ghost use Rattle.std.specs.Prelude.{◌≤◌, length, take};
 ghost use Rattle.journal.specs.TakenIn.{Lengthened, TookIn};
 
 // What was taken from a chunk: how much of the line there is now, how many bytes were read, and whether the line is whole.
-#[derive(Drop)]
+#[derive(Clone, Copy)]
 pub struct Taken {
     pub used: usize,
     pub eaten: usize,

@@ -4,7 +4,7 @@ ghost use Rattle.wire.specs.Write.{Wrote};
 ghost use Rattle.journal.specs.Texts.{decimal_text, hex_char, byte_text, hex_text, bytes_text};
 
 // The digits of a number, which stand from a place on. Twenty hold every number below 2^64.
-#[derive(Drop)]
+#[derive(Clone, Copy)]
 struct Decimal {
     digits: [u8; 20],
     from: usize,

@@ -1,7 +1,7 @@
 // What a line of a journal says.
 
 // What a word was expected to be.
-#[derive(Drop)]
+#[derive(Clone, Copy)]
 pub enum Kind {
     Keyword,
     Bytes,
@@ -13,7 +13,7 @@ pub enum Kind {
 }
 
 // A line, with the byte strings of its statement beside it.
-#[derive(Drop)]
+#[derive(Clone, Copy)]
 pub enum Parsed {
     Skipped,
     TooLong,
@@ -28,7 +28,7 @@ pub enum Parsed {
 }
 
 // A line that was read: how many bytes each of its two byte strings has, at the start of its lent buffer.
-#[derive(Drop)]
+#[derive(Clone, Copy)]
 pub struct ReadLine {
     pub parsed: Parsed,
     pub first: usize,

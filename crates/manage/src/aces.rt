@@ -16,7 +16,7 @@ use paper::state::{Ace, Acl, IdType};
 use tables::{aces, identifiers, lookups};
 
 // What a page puts: no ACE, one, or one that would list more than 16 LUACDs.
-#[derive(Drop)]
+#[derive(Clone, Copy)]
 pub struct Put {
     pub puts: bool,
     pub fits: bool,
@@ -24,7 +24,7 @@ pub struct Put {
 }
 
 // The ACL after the pages, if it has room for it.
-#[derive(Drop)]
+#[derive(Clone, Copy)]
 pub struct Aces {
     pub fits: bool,
     pub acl: Acl,

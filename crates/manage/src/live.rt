@@ -9,7 +9,7 @@ use paper::state::{ProxyLuns, Tokens};
 use tables::tokens::EndKind;
 use tables::{proxies, tokens};
 
-#[derive(Drop)]
+#[derive(Clone, Copy)]
 pub struct Live {
     pub tokens: Tokens,
     pub proxies: ProxyLuns,

@@ -10,7 +10,7 @@ use paper::state;
 use paper::state::Luacd;
 
 // LUACDs by value: the first 16, and how many there are.
-#[derive(Drop)]
+#[derive(Clone, Copy)]
 pub struct Filled {
     pub luacds: [Luacd; 16],
     pub count: usize,

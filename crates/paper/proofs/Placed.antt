@@ -4,7 +4,7 @@ use mathlib.Core.Path.{◌≡◌, refl, ap, ap₂, sym, ◌∙◌}
 use mathlib.Core.List.{List, ◌++◌}
 use mathlib.Core.Option.{Option, some, none, map}
 use mathlib.Core.Bool.{Bool, true, ◌&&◌}
-use Rattle.lists.specs.Lists.{there, find, is_some}
+use Rattle.lists.specs.Lists.{find, is_some}
 use Rattle.lists.proofs.Tests.{clashes, none_not_some}
 use Rattle.lists.proofs.Members.{find_map, none_find, from_map}
 use Rattle.wire.specs.Lun.{head_of}

@@ -7,7 +7,7 @@ use mathlib.Core.Bool.{true, false, ◌&&◌}
 use native.Mathlib.Omega.{arith}
 use lib.ListN.{length-append}
 use borrow.Author.Tests.{eqb-true, lt-ltb}
-use Rattle.lists.specs.Lists.{◌∈◌, there, keep, is_some}
+use Rattle.lists.specs.Lists.{◌∈◌, keep, is_some}
 use Rattle.lists.proofs.Tests.{split, clashes, and_true}
 use Rattle.lists.proofs.Members.{from_keep, find_in, find_any, pairs_last}
 use Rattle.wire.specs.Lun.{lun_of, head_of}

@@ -16,7 +16,7 @@ use Rattle.paper.specs.Effects.{Ending, ends, issued, ended, tokening}
 use Rattle.paper.specs.Reports.{reach_rows}
 use Rattle.paper.specs.Outcomes.{good, check, decide_command}
 use Rattle.paper.specs.Readings.{History, is_on, place_named, token, issued_less_ended, usable}
-use Rattle.paper.specs.Runs.{Entry, took}
+use Rattle.paper.specs.Runs.{Entry, command, took}
 use Rattle.paper.specs.Promises.{SetupKept, Calls, commanded, linked}
 use Rattle.paper.proofs.TableCounts.{Counts, fresh_counts, calls_count}
 use Rattle.paper.proofs.Revoked.{issues, RestsOn}
@@ -30,6 +30,7 @@ use Rattle.paper.specs.declared.state.Ground.TheVariants.{GroundX}
 use Rattle.paper.specs.declared.state.Token.{Token}
 use Rattle.paper.specs.declared.state.Row.{Row}
 use Rattle.paper.specs.declared.state.Coordinator.{Coordinator}
+use Rattle.paper.specs.declared.outcomes.Outcome.{Outcome}
 use Rattle.paper.specs.declared.outcomes.Started.{Started}
 use Rattle.paper.specs.declared.answers.Condition.TheVariants.{NoRoom}
 use Rattle.paper.specs.declared.answers.Answer.TheVariants.{Good}
@@ -49,7 +50,10 @@ module _ (ids luns : List ℕ) (s : Started) (kept : SetupKept ids luns s) (ok :
   -- a number is not issued while it stands for a live token
   not_issued : (c : Coordinator) (x : Entry) (es : List Entry) → Calls s.state c (x ∷ es) → (n : ℕ) (t : Token) → token w (took w es) n ≡ some t → any (issues n) (last_took w x es) ≡ false
   not_issued c x es (commanded {c = now} i cdb list random buffer calls k) n t live =
-      rw k.0 (command_new w (took w es) now (run_holds ids luns s kept ok now es calls) n t live i cdb list random (length buffer) (decide_command now i cdb list random (length buffer)) refl)
+      subst
+      (λ (o : Outcome). any (issues n) (last_took w (record { statement = command i cdb list random; answer = o.answer }) es) ≡ false)
+      (sym k.0)
+      (command_new w (took w es) now (run_holds ids luns s kept ok now es calls) n t live i cdb list random (length buffer) (decide_command now i cdb list random (length buffer)) refl)
   not_issued c x es (linked {r = r} i calls k) n t live =
       link_new w.luns (is_on (took w es)) n i r.answer
 

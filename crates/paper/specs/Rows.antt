@@ -34,6 +34,10 @@ abbrev pub content_for : List Ace → IdType → List ℕ → Content
 content_for aces k id = content_in (ace_for aces k id)
 
 -- ---- rows
+-- a row by its four parts
+abbrev pub row_by : ℕ → ℕ → ℕ → (ground : Ground) → Row
+row_by i l u g = record { initiator = i; lun = l; unit = u; ground = g }
+
 abbrev pub row_at : ℕ → Ground → Luacd → Row
 row_at i g p = record { initiator = i; lun = p.lun; unit = p.unit; ground = g }
 

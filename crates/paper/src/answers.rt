@@ -3,7 +3,7 @@ ghost use Rattle.std.specs.Prelude.{◌≡◌};
 ghost use Rattle.paper.specs.Answers.{number_of, code_of, sense_of, status_of, number_for, sense_for, values_of, answer_of};
 
 // The house refusals, in the order in which they are tested.
-#[derive(Drop)]
+#[derive(Clone, Copy)]
 pub enum Refusal {
     BadSetup,
     BadState,
@@ -14,7 +14,7 @@ pub enum Refusal {
 }
 
 // What a CHECK CONDITION tells, in the order of the paper's table.
-#[derive(Drop)]
+#[derive(Clone, Copy)]
 pub enum Condition {
     OtherOperation,
     InvalidField,
@@ -32,13 +32,13 @@ pub enum Condition {
 }
 
 // A code and its qualifier.
-#[derive(Drop)]
+#[derive(Clone, Copy)]
 pub struct Code {
     pub code: u8,
     pub qualifier: u8,
 }
 
-#[derive(Drop)]
+#[derive(Clone, Copy)]
 pub enum Answer {
     Good,
     Check(Condition),
@@ -46,7 +46,7 @@ pub enum Answer {
 }
 
 // What a LUN opens.
-#[derive(Drop)]
+#[derive(Clone, Copy)]
 pub enum Opened {
     Opens(u8),
     Closed(Condition),
@@ -54,14 +54,14 @@ pub enum Opened {
 }
 
 // The status of an answer; a refusal has none.
-#[derive(Drop)]
+#[derive(Clone, Copy)]
 pub enum Status {
     Byte(u8),
     NoStatus,
 }
 
 // The paper's values for an answer: its status, the number of its refusal, 0 if it is none, and its sense.
-#[derive(Drop)]
+#[derive(Clone, Copy)]
 pub struct Values {
     pub status: Status,
     pub number: u8,

@@ -7,7 +7,7 @@ use crate::answers::{Answer, Condition, Opened, Values};
 use crate::state::Coordinator;
 
 // The next state, the answer with its values, and how many bytes were delivered.
-#[derive(Drop)]
+#[derive(Clone, Copy)]
 pub struct Outcome {
     pub state: Coordinator,
     pub answer: Answer,
@@ -16,7 +16,7 @@ pub struct Outcome {
 }
 
 // What a setup starts.
-#[derive(Drop)]
+#[derive(Clone, Copy)]
 pub struct Started {
     pub state: Coordinator,
     pub answer: Answer,
@@ -24,7 +24,7 @@ pub struct Started {
 }
 
 // The answer to the route question, with its values.
-#[derive(Drop)]
+#[derive(Clone, Copy)]
 pub struct Opening {
     pub opened: Opened,
     pub values: Values,

@@ -14,14 +14,14 @@ pub const IDS_SIZE: usize = 16 * ID_SIZE;
 pub const ENROLMENTS_SIZE: usize = 16 * ENROLMENT_SIZE;
 
 // What an identifier is.
-#[derive(Drop)]
+#[derive(Clone, Copy)]
 pub enum IdType {
     AccessId,
     TransportId,
 }
 
 // What an ACE holds: a list, or everything.
-#[derive(Drop)]
+#[derive(Clone, Copy)]
 pub enum Extent {
     Listed,
     Everything,
@@ -29,21 +29,21 @@ pub enum Extent {
 
 // A unit at a LUN.
 #[repr(C)]
-#[derive(Drop)]
+#[derive(Clone, Copy)]
 pub struct Luacd {
     pub lun: u16,
     pub unit: u8,
 }
 
 // A LUACD as it is sent: its access mode, its LUN and its default LUN.
-#[derive(Drop)]
+#[derive(Clone, Copy)]
 pub struct Descriptor {
     pub mode: u8,
     pub lun: u64,
     pub default: u64,
 }
 
-#[derive(Drop)]
+#[derive(Clone, Copy)]
 pub struct Ace {
     pub kind: IdType,
     pub extent: Extent,
@@ -52,7 +52,7 @@ pub struct Ace {
     pub luacds: [Luacd; 16],
 }
 
-#[derive(Drop)]
+#[derive(Clone, Copy)]
 pub struct Acl {
     pub count: usize,
     pub items: [Ace; 32],
@@ -60,7 +60,7 @@ pub struct Acl {
 
 // A live token: its number, the unit that it opens, who got it and by naming which LUN.
 #[repr(C)]
-#[derive(Drop)]
+#[derive(Clone, Copy)]
 pub struct Token {
     pub number: u64,
     pub unit: u8,
@@ -69,7 +69,7 @@ pub struct Token {
 }
 
 #[repr(C)]
-#[derive(Drop)]
+#[derive(Clone, Copy)]
 pub struct Tokens {
     pub count: usize,
     pub items: [Token; 32],
@@ -77,7 +77,7 @@ pub struct Tokens {
 
 // A proxy LUN: whose it is, and the number of the live token that it stands on.
 #[repr(C)]
-#[derive(Drop)]
+#[derive(Clone, Copy)]
 pub struct ProxyLun {
     pub initiator: u8,
     pub lun: u16,
@@ -85,7 +85,7 @@ pub struct ProxyLun {
 }
 
 #[repr(C)]
-#[derive(Drop)]
+#[derive(Clone, Copy)]
 pub struct ProxyLuns {
     pub count: usize,
     pub items: [ProxyLun; 32],
@@ -93,7 +93,7 @@ pub struct ProxyLuns {
 
 // The initiators: their TransportIDs one after the other, and their enrolments, each the stage and the AccessID.
 #[repr(C)]
-#[derive(Drop)]
+#[derive(Clone, Copy)]
 pub struct Initiators {
     pub count: usize,
     pub ids: [u8; IDS_SIZE],
@@ -102,13 +102,13 @@ pub struct Initiators {
 
 // The units: their default LUNs.
 #[repr(C)]
-#[derive(Drop)]
+#[derive(Clone, Copy)]
 pub struct Units {
     pub count: usize,
     pub luns: [u16; 32],
 }
 
-#[derive(Drop)]
+#[derive(Clone, Copy)]
 pub struct Coordinator {
     pub enabled: bool,
     pub generation: u32,
@@ -121,7 +121,7 @@ pub struct Coordinator {
 }
 
 // The ground of a row, by the paper's letter.
-#[derive(Drop)]
+#[derive(Clone, Copy)]
 pub enum Ground {
     GroundA,
     GroundO,
@@ -130,7 +130,7 @@ pub enum Ground {
     GroundX,
 }
 
-#[derive(Drop)]
+#[derive(Clone, Copy)]
 pub struct Row {
     pub initiator: u8,
     pub lun: u16,

@@ -89,7 +89,7 @@ fn with_ace(rows: Rows, i: u8, g: Ground, a: Ace, units: Units) -> Rows
 }
 
 // The ACE of an identifier, if it has one.
-#[derive(Drop)]
+#[derive(Clone, Copy)]
 pub struct Held {
     pub there: bool,
     pub ace: Ace,

@@ -13,7 +13,7 @@ use paper::state::{Ground, Row};
 use tables::lookups::capped;
 
 // The grounds that a question on a LUN is about.
-#[derive(Drop)]
+#[derive(Clone, Copy)]
 pub enum Grounds {
     Opening,
     TransportOrAccess,

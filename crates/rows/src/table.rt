@@ -4,13 +4,13 @@ ghost use Rattle.rows.specs.Table.{no_row, row_table};
 
 use paper::state::{Ground, Row};
 
-#[derive(Drop)]
+#[derive(Clone, Copy)]
 pub struct Rows {
     pub count: usize,
     pub items: [Row; 96],
 }
 
-#[derive(Drop)]
+#[derive(Clone, Copy)]
 pub enum RowFound {
     Found(Row),
     NotFound,

@@ -12,7 +12,7 @@ use tables::lookups;
 use tables::lookups::capped;
 
 // The rules that an ACE keeps by itself, the last where there are so many units.
-#[derive(Drop)]
+#[derive(Clone, Copy)]
 pub enum AceRule {
     FewLuacds,
     OnceListed,

@@ -9,7 +9,7 @@ use paper::state::{Ace, Extent, Luacd};
 use tables::lookups::capped;
 
 // Of a LUACD: the LUN's form, or that there are more units than its number.
-#[derive(Drop)]
+#[derive(Clone, Copy)]
 pub enum LuacdRule {
     LuacdFormed,
     UnitThere(usize),

@@ -10,7 +10,7 @@ use paper::state::{Token, Tokens};
 use tables::lookups::capped;
 
 // The rules that a token keeps by itself, the last where there are so many units and initiators.
-#[derive(Drop)]
+#[derive(Clone, Copy)]
 pub enum TokenRule {
     TokenFormed,
     Nonzero,

@@ -12,7 +12,7 @@ use crate::identifiers;
 use paper::state::{ENROLMENT_SIZE, ENROLMENTS_SIZE, ID_SIZE, IDS_SIZE, IdType, Initiators};
 
 // What happens to enrolments: an initiator joins, leaves or loses its link; FLUSH; or those under an AccessID end.
-#[derive(Drop)]
+#[derive(Clone, Copy)]
 pub enum Change {
     Joined(usize),
     Left(usize),
@@ -22,7 +22,7 @@ pub enum Change {
 }
 
 // One enrolment as its bytes hold it: the stage is 1 enrolled, 2 pending.
-#[derive(Drop)]
+#[derive(Clone, Copy)]
 pub struct Stored {
     pub stage: u8,
     pub id: [u8; ID_SIZE],

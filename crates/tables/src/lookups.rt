@@ -7,7 +7,7 @@ ghost use Rattle.tables.specs.Found.{found_token};
 use crate::identifiers;
 use paper::state::{Ace, Acl, IdType, Token, Tokens};
 
-#[derive(Drop)]
+#[derive(Clone, Copy)]
 pub enum TokenFound {
     Live(Token),
     Dead,

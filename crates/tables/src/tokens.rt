@@ -11,7 +11,7 @@ use paper::state;
 use paper::state::{Token, Tokens};
 
 // Which tokens end: an initiator's own of a number, an initiator's by naming a LUN, those that a page 02h lists, or all.
-#[derive(Drop)]
+#[derive(Clone, Copy)]
 pub enum EndKind {
     Own(u8, u64),
     Named(u8, u64),

@@ -1,0 +1,5 @@
+-- An array of blanks is no entries, padded.
+use Rattle.paper.proofs.state.no_acl.Goals as goal
+
+pub returns : goal.returns
+returns c = rw c.no_ace.ensures
