@@ -2,6 +2,7 @@
 use Rattle.std.specs.Prelude.{List, Bool, true, false, length}
 use Rattle.std.proofs.Math.Option.{Option, some, none}
 use Rattle.lists.specs.Tables.{pad}
+use Rattle.paper.specs.Rows.{row_by}
 use Rattle.paper.specs.declared.state.Ground.TheVariants.{GroundA}
 use Rattle.paper.specs.declared.state.Row.{Row}
 use Rattle.rows.specs.declared.table.Rows.{Rows}
@@ -9,7 +10,7 @@ use Rattle.rows.specs.declared.table.RowFound.{RowFound}
 use Rattle.rows.specs.declared.table.RowFound.TheVariants.{Found, NotFound}
 
 abbrev pub no_row : Row
-no_row = record { initiator = 0; lun = 0; unit = 0; ground = GroundA }
+no_row = row_by 0 0 0 GroundA
 
 abbrev pub row_table : List Row → Rows
 row_table l = record { count = length l; items = pad no_row 96 l }

@@ -4,7 +4,7 @@ ghost use Rattle.lists.specs.Lists.{keep, gather};
 ghost use Rattle.lists.specs.Bytes.{same_bytes};
 ghost use Rattle.paper.specs.Contents.{all_units, held};
 ghost use Rattle.paper.specs.Tables.{enrolment_in, enrolment_of, content_of};
-ghost use Rattle.paper.specs.Rows.{is_for, ace_for, row_at, rows_at, transport_rows, enrolment_rows, owned_by, row_of_proxy, rows_of};
+ghost use Rattle.paper.specs.Rows.{is_for, ace_for, row_at, row_by, rows_at, transport_rows, enrolment_rows, owned_by, row_of_proxy, rows_of};
 ghost use Rattle.rows.specs.Table.{row_table};
 ghost use Rattle.paper.specs.declared.state.Ground.TheVariants.{GroundX};
 ghost use Rattle.rows.specs.Append.{Joined};
@@ -185,7 +185,7 @@ fn with_enrolment(rows: Rows, i: u8, c: Coordinator, e: &[u8]) -> Rows
 
 // The row of a proxy LUN, to the unit of its token.
 fn proxy_row(p: ProxyLun, t: Token) -> Row
-    ensures { result ≡ record { initiator = p.initiator; lun = p.lun; unit = t.unit; ground = GroundX } }
+    ensures { result ≡ row_by p.initiator p.lun t.unit GroundX }
 {
     Row {
         initiator: p.initiator,
