@@ -1,0 +1,13 @@
+-- The descriptors that are left decide.
+use Prim.Native.Nat.{◌-◌}
+use mathlib.Core.Path.{◌≡◌}
+use lib.ListN.{drop}
+use Rattle.lists.specs.Lists.{any}
+use Rattle.paper.specs.Pages.{bad_mode, descriptors_in}
+use Rattle.pages.proofs.form.some_bad_mode.Given as goal
+
+abbrev pub invariant-loop-k : goal.invariant-loop-k
+invariant-loop-k l = any bad_mode (descriptors_in l.run) ≡ any bad_mode (drop l.k (descriptors_in l.run))
+
+abbrev pub decreases-loop-k : goal.decreases-loop-k
+decreases-loop-k l = l.count - l.k
