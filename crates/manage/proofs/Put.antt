@@ -11,10 +11,10 @@ use lib.Dec.{leb, ltb, eqb-suc-zero}
 use mir.Syntax.{w8}
 use mir.Val.{Fits}
 use borrow.Author.Tests.{leb-true, leb-false, ltb-false, lt-ltb, le-ltb}
-use Rattle.lists.specs.Lists.{any, all, gather}
+use Rattle.lists.specs.Lists.{any, gather}
 use Rattle.lists.specs.Pages.{page_size, pages_of}
 use Rattle.lists.specs.Tables.{pad}
-use Rattle.lists.proofs.Tests.{split, clashes, and_true, or_true}
+use Rattle.lists.proofs.Tests.{split, clashes, and_true}
 use Rattle.lists.proofs.Bytes.{be_below}
 use Rattle.lists.proofs.Tables.{take_pad, Built, built_more}
 use Rattle.lists.proofs.Members.{any_append}

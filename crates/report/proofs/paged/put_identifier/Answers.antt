@@ -1,0 +1,43 @@
+-- Four writers, one after the other; the identifier is written as it is kept.
+use mathlib.Core.Path.{ap, ◌∙◌}
+use native.Mathlib.Omega.{arith}
+use borrow.Author.Rules.{rules}
+use lib.ListN.{length}
+use Rattle.lists.proofs.Bytes.{bytes_length}
+use Rattle.wire.proofs.Writing.{then}
+use Rattle.paper.specs.Reports.{identifier_bytes}
+use Rattle.paper.proofs.Getters.{length_kept}
+use Rattle.report.proofs.paged.put_identifier.Goals as goal
+
+pub kept_id-bytes-requires : goal.kept_id-bytes-requires
+unfolding identifier_bytes
+kept_id-bytes-requires c = search rules
+
+pub put-b-requires : goal.put-b-requires
+unfolding identifier_bytes
+put-b-requires c = search rules
+
+pub type_byte-requires : goal.type_byte-requires
+unfolding identifier_bytes
+type_byte-requires c = search rules
+
+pub put-c-requires : goal.put-c-requires
+unfolding identifier_bytes
+put-c-requires c = search rules
+
+pub put_be16-d-requires : goal.put_be16-d-requires
+unfolding identifier_bytes
+put_be16-d-requires c = search rules
+
+pub put_bytes-requires : goal.put_bytes-requires
+unfolding identifier_bytes
+put_bytes-requires c =
+    let many = ap length c.kept_id-bytes.ensures ∙ length_kept c.args.a.kind c.args.a.id in
+    omega (arith, many, simp bytes_length at c.put_be16-d.ensures.ended, c.put-c.ensures.ended, c.put-b.ensures.ended)
+
+pub returns : goal.returns
+unfolding identifier_bytes
+returns c =
+    then c.put-b.ensures
+    (then (rw c.type_byte.ensures at c.put-c.ensures)
+    (then c.put_be16-d.ensures (rw c.kept_id-bytes.ensures at c.put_bytes.ensures)))

@@ -1,0 +1,13 @@
+-- Each turn gives the next entry its key.
+use Prim.Native.Nat.{◌-◌, ◌≤◌}
+use mathlib.Core.Path.{◌≡◌}
+use lib.ListN.{length}
+use Rattle.paper.specs.Tables.{no_token}
+use Rattle.report.specs.Places.{KeysBy, ByNumber}
+use Rattle.report.proofs.tokened.token_keys.Given as goal
+
+abbrev pub invariant-loop-k : goal.invariant-loop-k
+invariant-loop-k l = (l.k ≤ l.n) × (l.n ≤ 32) × (length l.keys ≡ 32) × KeysBy ByNumber no_token l.items l.k l.keys
+
+abbrev pub decreases-loop-k : goal.decreases-loop-k
+decreases-loop-k l = l.n - l.k

@@ -1,0 +1,11 @@
+-- Every default LUN passed has the form, and those that are left decide.
+use Prim.Native.Nat.{◌-◌}
+use Rattle.lists.proofs.Checks.{Each}
+use Rattle.paper.specs.Standing.{lun_formed}
+use Rattle.standing.proofs.units.defaults_formed.Given as goal
+
+abbrev pub invariant-loop-i : goal.invariant-loop-i
+invariant-loop-i l = Each lun_formed l.luns 32 l.given l.n l.i
+
+abbrev pub decreases-loop-i : goal.decreases-loop-i
+decreases-loop-i l = l.n - l.i
