@@ -1,0 +1,34 @@
+-- The buffer is filled before the call, and its outcome and the buffer after it are what is told.
+use Rattle.journal.proofs.Lent.{command_fits, call_state, call_text}
+use Rattle.journal.specs.Replay.{step_said}
+use Rattle.journal.specs.Statements.{command_word}
+use Rattle.paper.specs.Outcomes.{decide_command}
+use lib.ListN.{length}
+use mathlib.Core.Path.{◌∙◌}
+use native.Mathlib.Omega.{arith}
+use borrow.Author.Rules.{rules}
+use Rattle.journal.proofs.answering.answer_command.Goals as goal
+
+pub fill-requires : goal.fill-requires
+unfolding step_said
+fill-requires c = search rules
+
+pub command-outcome-requires : goal.command-outcome-requires
+unfolding step_said
+command-outcome-requires c = search rules
+
+pub lent_line-size-requires : goal.lent_line-size-requires
+unfolding step_said
+lent_line-size-requires c =
+    let a = c.args in
+    let fits = command_fits a.c a.i a.cdb.now a.list.now a.random _ c.command-outcome.ensures.outcome in
+    (omega arith, omega (arith, fits, c.command-outcome.auto.reply), omega (arith, c.command-outcome.auto.reply, c.fill.auto.reply, c.requires.0), omega (arith, c.requires.1))
+
+pub returns : goal.returns
+unfolding step_said
+returns c =
+    let a = c.args in
+    let decide = decide_command a.c a.i a.cdb.now a.list.now a.random in
+    let n = length a.reply.now in
+    let called = c.command-outcome.ensures in
+    record { state = call_state a.c decide n c.fill.ensures called.outcome called.bytes; text = c.lent_line-size.ensures.text ∙ call_text a.c decide n c.fill.ensures called.outcome called.bytes command_word; room = c.lent_line-size.ensures.room }

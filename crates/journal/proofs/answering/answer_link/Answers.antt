@@ -1,0 +1,23 @@
+-- The outcome's state is the next, and its answer is what is told.
+use Rattle.journal.specs.Replay.{plain_text, step_said}
+use Rattle.journal.specs.Texts.{end_text}
+use Rattle.journal.specs.Statements.{link_word}
+use Rattle.paper.specs.declared.outcomes.Outcome.{Outcome}
+use mathlib.Core.Path.{ap, ◌∙◌}
+use mathlib.Core.List.{◌++◌}
+use borrow.Author.Rules.{rules}
+use Rattle.journal.proofs.answering.answer_link.Goals as goal
+
+pub link_event-outcome-requires : goal.link_event-outcome-requires
+unfolding step_said
+link_event-outcome-requires c = search rules
+
+pub plain_line-size-requires : goal.plain_line-size-requires
+unfolding step_said
+plain_line-size-requires c = search rules
+
+pub returns : goal.returns
+unfolding step_said
+returns c =
+    let so = c.link_event-outcome.ensures in
+    record { state = ap (λ (q : Outcome). q.state) so; text = c.plain_line-size.ensures.text ∙ ap (λ (q : Outcome). (link_word ++ plain_text q.answer) ++ end_text) so; room = c.plain_line-size.ensures.room }

@@ -1,0 +1,24 @@
+-- What setup starts is the next state, and its answer is what is told.
+use Rattle.journal.specs.Replay.{plain_text, step_said}
+use Rattle.journal.specs.Texts.{end_text}
+use Rattle.journal.specs.Statements.{setup_word}
+use Rattle.paper.specs.declared.outcomes.Started.{Started}
+use mathlib.Core.Path.{ap, ◌∙◌}
+use mathlib.Core.List.{◌++◌}
+use borrow.Author.Rules.{rules}
+use Rattle.journal.proofs.answering.answer_setup.Goals as goal
+
+pub setup-begun-requires : goal.setup-begun-requires
+unfolding step_said
+setup-begun-requires c = search rules
+
+pub plain_line-size-requires : goal.plain_line-size-requires
+unfolding step_said
+plain_line-size-requires c = search rules
+
+pub returns : goal.returns
+unfolding step_said
+returns c =
+    let so = c.setup-begun.ensures in
+    let told = c.plain_line-size.ensures in
+    record { state = (λ before. ap (λ (q : Started). q.state) so); text = (λ before. told.text ∙ ap (λ (q : Started). (setup_word ++ plain_text q.answer) ++ end_text) so); room = told.room }

@@ -1,0 +1,10 @@
+-- The digit is below ten, or a letter.
+use native.Mathlib.Omega.{arith}
+use borrow.Author.Tests.{lt-ltb, le-ltb}
+use Rattle.journal.proofs.printing.hex_char.Goals as goal
+
+pub returns-then-d-lt10 : goal.returns-then-d-lt10
+returns-then-d-lt10 c = rw (lt-ltb _ _ c.if-d-lt10.true)
+
+pub returns-else-d-lt10 : goal.returns-else-d-lt10
+returns-else-d-lt10 c = rw (le-ltb _ _ c.if-d-lt10.false) (omega arith)
