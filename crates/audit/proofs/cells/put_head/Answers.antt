@@ -1,0 +1,63 @@
+-- Each column has its own heading.
+use borrow.Author.Tests.{ne_eqb}
+use Rattle.audit.specs.Cells.{head_text}
+use borrow.Author.Rules.{rules}
+use Rattle.audit.proofs.cells.put_head.Goals as goal
+
+pub put_bytes-requires : goal.put_bytes-requires
+unfolding head_text
+put_bytes-requires c = search rules
+
+pub put_bytes-requires-in-1 : goal.put_bytes-requires-in-1
+unfolding head_text
+put_bytes-requires-in-1 c = search rules
+
+pub put_bytes-requires-in-2 : goal.put_bytes-requires-in-2
+unfolding head_text
+put_bytes-requires-in-2 c = search rules
+
+pub put_bytes-requires-in-3 : goal.put_bytes-requires-in-3
+unfolding head_text
+put_bytes-requires-in-3 c = search rules
+
+pub put_bytes-requires-in-4 : goal.put_bytes-requires-in-4
+unfolding head_text
+put_bytes-requires-in-4 c = search rules
+
+pub put_bytes-requires-in-5 : goal.put_bytes-requires-in-5
+unfolding head_text
+put_bytes-requires-in-5 c = search rules
+
+pub put_bytes-requires-in_default : goal.put_bytes-requires-in_default
+unfolding head_text
+put_bytes-requires-in_default c = search rules
+
+pub returns-in-0 : goal.returns-in-0
+unfolding head_text
+returns-in-0 c = rw c.in-0.is c.put_bytes.ensures
+
+pub returns-in-1 : goal.returns-in-1
+unfolding head_text
+returns-in-1 c = rw c.in-1.is c.put_bytes-in-1.ensures
+
+pub returns-in-2 : goal.returns-in-2
+unfolding head_text
+returns-in-2 c = rw c.in-2.is c.put_bytes-in-2.ensures
+
+pub returns-in-3 : goal.returns-in-3
+unfolding head_text
+returns-in-3 c = rw c.in-3.is c.put_bytes-in-3.ensures
+
+pub returns-in-4 : goal.returns-in-4
+unfolding head_text
+returns-in-4 c = rw c.in-4.is c.put_bytes-in-4.ensures
+
+pub returns-in-5 : goal.returns-in-5
+unfolding head_text
+returns-in-5 c = rw c.in-5.is c.put_bytes-in-5.ensures
+
+pub returns-in_default : goal.returns-in_default
+unfolding head_text
+returns-in_default c =
+    let r = c.in_default.in_default-own.rest in
+    rw (ne_eqb _ 0 r.0.0.0.0.0.1, ne_eqb _ 1 r.0.0.0.0.1, ne_eqb _ 2 r.0.0.0.1, ne_eqb _ 3 r.0.0.1, ne_eqb _ 4 r.0.1, ne_eqb _ 5 r.1) c.put_bytes-in_default.ensures

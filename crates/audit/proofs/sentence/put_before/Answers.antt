@@ -1,0 +1,26 @@
+-- The two tests of the definition, one after the other.
+use borrow.Author.Rules.{rules}
+use borrow.Author.Tests.{eq-eqb, ne_eqb}
+use Rattle.wire.proofs.Writing.{wrote_none}
+use Rattle.audit.specs.Sentence.{before}
+use Rattle.audit.proofs.sentence.put_before.Goals as goal
+
+pub returns-then-k-eq0 : goal.returns-then-k-eq0
+unfolding before
+returns-then-k-eq0 c = rw (eq-eqb _ _ c.if-k-eq0.true) (wrote_none _ _ _)
+
+pub put_bytes-requires : goal.put_bytes-requires
+unfolding before
+put_bytes-requires c = search rules
+
+pub returns-then-k-n : goal.returns-then-k-n
+unfolding before
+returns-then-k-n c = rw (ne_eqb _ _ c.if-k-eq0.false, eq-eqb _ _ c.if-k-n.true) c.put_bytes.ensures
+
+pub put_bytes-requires-2 : goal.put_bytes-requires-2
+unfolding before
+put_bytes-requires-2 c = search rules
+
+pub returns : goal.returns
+unfolding before
+returns c = rw (ne_eqb _ _ c.if-k-eq0.false, ne_eqb _ _ c.if-k-n.false) c.put_bytes-2.ensures

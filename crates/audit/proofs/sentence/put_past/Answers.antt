@@ -1,0 +1,28 @@
+-- Past the last line the journal's end is told.
+use native.Mathlib.Omega.{arith}
+use borrow.Author.Rules.{rules}
+use borrow.Author.Tests.{lt-ltb, le-ltb}
+use Rattle.journal.proofs.Told.{decimal_most}
+use Rattle.wire.proofs.Writing.{then, wrote_none}
+use Rattle.audit.specs.Sentence.{past_text}
+use Rattle.audit.proofs.sentence.put_past.Goals as goal
+
+pub returns-then-a : goal.returns-then-a
+unfolding past_text
+returns-then-a c = rw (le-ltb _ _ c.if-a.true) (wrote_none _ _ _)
+
+pub put_bytes-told-requires : goal.put_bytes-told-requires
+unfolding past_text
+put_bytes-told-requires c = search rules
+
+pub put_decimal-last-requires : goal.put_decimal-last-requires
+unfolding past_text
+put_decimal-last-requires c = search rules
+
+pub put-requires : goal.put-requires
+unfolding past_text
+put-requires c = omega (arith, c.put_bytes-told.ensures.ended, c.put_decimal-last.ensures.ended, decimal_most c.args.a.last)
+
+pub returns : goal.returns
+unfolding past_text
+returns c = rw (lt-ltb _ _ c.if-a.false) (then c.put_bytes-told.ensures (then c.put_decimal-last.ensures c.put.ensures))
