@@ -39,9 +39,7 @@ fmt:
 
 lib:
 	@echo "proving and building the C library; the first time this takes some ten minutes" >&2
-	@rt staticlib shelf
-	@mkdir -p target/lib
-	@cp target/staticlib/libshelf.a target/lib/liboberkosz.a
+	@tools/library target/lib/liboberkosz.a
 	@cp include/oberkosz.h target/lib/oberkosz.h
 	@echo "target/lib has liboberkosz.a and oberkosz.h"
 

@@ -1,5 +1,5 @@
 //! Finds the archive: the folder that OBERKOSZ_LIB names has liboberkosz.a (`make lib`) or
-//! libshelf.a (`rt staticlib shelf`).
+//! libshelf.a (`tools/library target/staticlib/libshelf.a`, as the tests make it).
 
 use std::env;
 use std::path::Path;

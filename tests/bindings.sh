@@ -45,8 +45,8 @@ find_archive() {
         OBERKOSZ_LIB=$root/target/staticlib
         if [ ! -f "$OBERKOSZ_LIB/libshelf.a" ]; then
             echo "making target/staticlib/libshelf.a: the first time this takes some ten minutes"
-            (cd "$root" && rt staticlib shelf) >"$work/messages" 2>&1
-            told "rt staticlib shelf" $? "$work/messages"
+            "$root/tools/library" "$OBERKOSZ_LIB/libshelf.a" >"$work/messages" 2>&1
+            told "tools/library" $? "$work/messages"
         fi
     fi
     # cargo runs elsewhere

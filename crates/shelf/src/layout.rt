@@ -3,7 +3,7 @@ use paper::state::{ID_SIZE, Initiators, Luacd, ProxyLuns, Tokens, Units};
 
 // An ACE: its type is 0 AccessID, 1 TransportID; it holds 0 a list, 1 everything.
 #[repr(C)]
-#[derive(Drop)]
+#[derive(Clone, Copy)]
 pub struct ShelfAce {
     pub kind: u8,
     pub extent: u8,
@@ -13,7 +13,7 @@ pub struct ShelfAce {
 }
 
 #[repr(C)]
-#[derive(Drop)]
+#[derive(Clone, Copy)]
 pub struct ShelfAcl {
     pub count: usize,
     pub items: [ShelfAce; 32],
@@ -21,7 +21,7 @@ pub struct ShelfAcl {
 
 // Access controls are 0 disabled, 1 enabled.
 #[repr(C)]
-#[derive(Drop)]
+#[derive(Clone, Copy)]
 pub struct Shelf {
     pub enabled: u8,
     pub generation: u32,
@@ -35,7 +35,7 @@ pub struct Shelf {
 
 // The values of an answer: 00h GOOD, 02h CHECK CONDITION, FFh a house refusal; its number; the sense bytes.
 #[repr(C)]
-#[derive(Drop)]
+#[derive(Clone, Copy)]
 pub struct ShelfValues {
     pub status: u8,
     pub number: u8,
@@ -44,7 +44,7 @@ pub struct ShelfValues {
 
 // The next state, the values of the answer, and how many bytes were delivered.
 #[repr(C)]
-#[derive(Drop)]
+#[derive(Clone, Copy)]
 pub struct ShelfOutcome {
     pub state: Shelf,
     pub values: ShelfValues,
@@ -53,7 +53,7 @@ pub struct ShelfOutcome {
 
 // What a LUN opens: the unit, if the status is GOOD.
 #[repr(C)]
-#[derive(Drop)]
+#[derive(Clone, Copy)]
 pub struct ShelfOpening {
     pub unit: u8,
     pub values: ShelfValues,

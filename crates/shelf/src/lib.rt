@@ -1,4 +1,6 @@
-// The coordinator for C. include/oberkosz.h declares these functions.
+// The coordinator for C. include/oberkosz.h declares these functions, and crates/shelf_c exports them, since a library exports nothing itself.
+#![tactic(auto)]
+
 ghost use Rattle.std.specs.Prelude.{◌≡◌, true, length, get_or};
 ghost use Rattle.paper.specs.Fresh.{started};
 ghost use Rattle.paper.specs.Standing.{standing};
