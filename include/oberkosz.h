@@ -25,8 +25,8 @@
  * one number (0 to 255); oberkosz_route takes all eight bytes as one big-endian number.
  * Initiators and units are numbered from 0 in setup order.
  *
- * WHAT IT NEEDS. x86-64 with the System V calling convention; of the C library memcpy and
- * memset alone; and stack, which is measured and not proved: some 85 KB for a command
+ * WHAT IT NEEDS. x86-64 with the System V calling convention; of the C library memcpy, memmove
+ * and memset alone; and stack, which is measured and not proved: some 135 KB for a command
  * (MANAGE ACL takes the most), some 25 KB for oberkosz_route_standing.
  */
 #ifndef OBERKOSZ_H
