@@ -18,7 +18,7 @@ test:
 	.ci/run
 
 check:
-	rt check
+	rt all check
 
 lists:
 	tests/check-suites
@@ -35,7 +35,7 @@ bench:
 	tests/bench-journal
 
 fmt:
-	rt fmt
+	@for crate in crates/*/; do (cd $$crate && rt fmt) || exit 1; done
 
 lib:
 	@echo "proving and building the C library; the first time this takes some ten minutes" >&2
