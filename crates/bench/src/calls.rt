@@ -10,7 +10,7 @@ use paper::state::Coordinator;
 use standing::rules;
 
 // What a call is about, beside the CDB and the parameter bytes, and how many times it is made.
-#[derive(Drop)]
+#[derive(Clone, Copy)]
 pub struct Operands {
     pub times: usize,
     pub initiator: usize,

@@ -1,15 +1,19 @@
 // One standing rule or one call on a state of the shape that the input names, so many times over, for its cost to be counted.
 // The input: eight bytes for the shape, a letter for the rule or the call, the initiator, as eight bytes each the random number and the LUN, and as four how many times; then the CDB, and then the parameter bytes.
+#![tactic(auto)]
+
 ghost use Rattle.std.specs.Prelude.{◌≡◌, length};
+ghost use Rattle.std.specs.Io.{ReadsAtMost};
 
 mod calls;
 mod said;
 mod states;
 
 use calls::Operands;
-use libc::{STDIN_FILENO, STDOUT_FILENO};
 use paper::state::Coordinator;
 use standing::rules;
+use std::io;
+use std::io::Read;
 
 // The answer of the rule that a letter names; another letter names none.
 fn asked(c: Coordinator, rule: u8) -> bool {
@@ -52,14 +56,41 @@ fn list_buffer() -> [u8; 65560]
     [0; 65560]
 }
 
+// Room for the longest reply.
+fn reply_buffer() -> [u8; 65536]
+    ensures { 65536 ≡ length result }
+{
+    [0; 65536]
+}
+
+// Reads until the room is full or the input ends: how many bytes.
+fn read_full<I: Read>(input: &mut I, room: &mut [u8]) -> io::Result<usize>
+    ensures { ReadsAtMost result room.new }
+{
+    let mut done = 0;
+    while done < room.len() {
+        let n = input.read(&mut room[done..])?;
+        if n == 0 {
+            break;
+        }
+        done += n;
+    }
+    Ok(done)
+}
+
 // Capitals name calls, other letters rules.
-fn answered(c: Coordinator, head: &[u8; 30], cdb: &[u8], list: &[u8]) {
+fn answered(
+    rt: &impl Print,
+    c: Coordinator,
+    head: &[u8; 30],
+    cdb: &[u8],
+    list: &[u8],
+) -> io::Result<()> {
     let letter = head[8];
     let times = wire::be32(head, 26) as usize;
-    let mut reply = io::large_buffer();
+    let mut reply = reply_buffer();
     if letter < b'A' || b'Z' < letter {
-        said::say_kept(asked_often(c, letter, times));
-        return;
+        return said::say_kept(rt, asked_often(c, letter, times));
     }
     let x = Operands {
         times,
@@ -67,24 +98,25 @@ fn answered(c: Coordinator, head: &[u8; 30], cdb: &[u8], list: &[u8]) {
         random: wire::be64(head, 10),
         lun: wire::be64(head, 18),
     };
-    said::say_answer(calls::repeated(c, letter, x, cdb, list, &mut reply));
+    said::say_answer(rt, calls::repeated(c, letter, x, cdb, list, &mut reply))
 }
 
-fn measured(head: &[u8; 30]) {
+fn measured<I: Read>(rt: &impl Print, input: &mut I, head: &[u8; 30]) -> io::Result<()> {
     let mut cdb = [0; 16];
     let mut list = list_buffer();
-    io::read_full(STDIN_FILENO, &mut cdb);
-    let n = io::read_full(STDIN_FILENO, &mut list);
+    read_full(input, &mut cdb)?;
+    let n = read_full(input, &mut list)?;
     let c = states::state_of(states::shape_in(head));
-    answered(c, head, &cdb, &list[..n]);
+    answered(rt, c, head, &cdb, &list[..n])
 }
 
-fn main() {
+fn main(rt: HostRuntime) -> io::Result<()> {
+    let mut input = rt.stdin();
     let mut head = [0; 30];
-    let n = io::read_full(STDIN_FILENO, &mut head);
+    let n = read_full(&mut input, &mut head)?;
     if n == 30 {
-        measured(&head);
+        measured(&rt, &mut input, &head)
     } else {
-        io::write_all(STDOUT_FILENO, b"bench: the input names no call\n");
+        println!(rt; "bench: the input names no call")
     }
 }

@@ -9,7 +9,7 @@ use paper::{setters, state};
 
 // How much of each table is used. Of the initiators the first ones are enrolled, each under an AccessID of its own.
 // ACEs list so many LUACDs: those of TransportIDs from unit 0 on, those of AccessIDs from unit `upper` on. There are as many proxy LUNs as tokens.
-#[derive(Drop)]
+#[derive(Clone, Copy)]
 pub struct Shape {
     pub extent: Extent,
     pub initiators: usize,

@@ -1,6 +1,13 @@
 // The buffers of a run. Each has room for the longest that it may have to hold, whatever the journal.
 ghost use Rattle.std.specs.Prelude.{◌≡◌, length};
 
+// A chunk of the journal, the longest reply, or the grounds that stand.
+pub fn for_chunk() -> [u8; 65536]
+    ensures { 65536 ≡ length result }
+{
+    [0; 65536]
+}
+
 // A line, and one byte more by which it is told that it is too long.
 pub fn for_line() -> [u8; 262145]
     ensures { 262145 ≡ length result }

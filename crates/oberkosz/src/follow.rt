@@ -1,5 +1,5 @@
 // The grounds of a unit, followed for an audit.
-ghost use Rattle.std.specs.Prelude.{◌≡◌, true, ◌≤◌, length};
+ghost use Rattle.std.specs.Prelude.{◌≡◌, true, ◌≤◌, length, IfOk};
 ghost use Rattle.journal.specs.Statements.{read_line};
 ghost use Rattle.audit.specs.Room.{Within};
 ghost use Rattle.audit.specs.Following.{kept_in, followed};
@@ -10,9 +10,10 @@ use crate::step::{Kind, Task};
 use audit::following;
 use audit::following::{Followed, Grounds, Inquiry};
 use journal::telling;
-use libc::STDERR_FILENO;
 use paper::state::Coordinator;
 use showing::out;
+use std::io;
+use std::io::Write;
 
 fn is_audit(kind: Kind) -> bool
     ensures { result ≡ is_audit kind }
@@ -29,23 +30,21 @@ fn is_audit(kind: Kind) -> bool
 }
 
 // "If there are more, it .. says so on standard error with the line at which it was full"
-fn tell_unless(fits: bool, number: u64, text: &mut [u8])
+fn tell_unless<E: Write>(errors: &mut E, fits: bool, number: u64, text: &mut [u8]) -> io::Result<()>
     requires { 140000 ≤ length text.old }
 {
     if fits {
-        return;
+        return Ok(());
     }
     let limit = text.len();
     let told = telling::put_line(text, 0, limit, number);
-    out::write_text(STDERR_FILENO, text, told);
-    out::write(
-        STDERR_FILENO,
-        b": more than 16384 grounds: ask for fewer lines\n",
-    );
+    out::write_text(errors, text, told)?;
+    out::write(errors, b": more than 16384 grounds: ask for fewer lines\n")
 }
 
 // The grounds after a line; of other tasks than an audit there are none. The text was told: its buffer is free for the grounds that stand next.
-pub fn follow(
+pub fn follow<E: Write>(
+    errors: &mut E,
     task: Task,
     number: u64,
     line: &[u8],
@@ -57,18 +56,18 @@ pub fn follow(
     text: &mut [u8],
     standing: &mut [u8],
     ended: &mut [u8],
-) -> Followed
+) -> io::Result<Followed>
     requires lent { Lent first.old second.old reply.old text.old standing.old ended.old }
     requires within_2 { Within before }
-    ensures within { Within result.grounds }
-    ensures kept { is_audit task.kind ≡ true → result.fits ≡ true → kept_in result.grounds standing.new ended.new ≡ followed (inquiry_of task) number (read_line line.now) state (kept_in before standing.old ended.old) }
+    ensures within { IfOk result (λ after. Within after.grounds) }
+    ensures kept { IfOk result (λ after. is_audit task.kind ≡ true → after.fits ≡ true → kept_in after.grounds standing.new ended.new ≡ followed (inquiry_of task) number (read_line line.now) state (kept_in before standing.old ended.old)) }
 {
     let kind = task.kind;
     if !is_audit(kind) {
-        return Followed {
+        return Ok(Followed {
             grounds: before,
             fits: true,
-        };
+        });
     }
     let q = Inquiry {
         unit: task.unit,
@@ -78,6 +77,6 @@ pub fn follow(
     let after = following::follow(
         q, number, line, state, before, first, second, reply, standing, text, ended,
     );
-    tell_unless(after.fits, number, text);
-    after
+    tell_unless(errors, after.fits, number, text)?;
+    Ok(after)
 }

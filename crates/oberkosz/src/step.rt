@@ -1,5 +1,5 @@
 // One line of a journal: answered, or followed for an audit.
-ghost use Rattle.std.specs.Prelude.{◌≡◌, true, ◌&&◌, ◌+◌, ◌≤◌, length};
+ghost use Rattle.std.specs.Prelude.{◌≡◌, true, ◌+◌, ◌≤◌, length, IfOk};
 ghost use Rattle.journal.specs.Statements.{read_line};
 ghost use Rattle.journal.specs.Replay.{step_line};
 ghost use Rattle.audit.specs.Room.{Within};
@@ -10,12 +10,13 @@ ghost use Rattle.oberkosz.specs.Places.{is_audit, inquiry_of};
 use crate::follow;
 use audit::following::Grounds;
 use journal::replaying;
-use libc::{STDERR_FILENO, STDOUT_FILENO};
 use paper::state::Coordinator;
 use showing::out;
+use std::io;
+use std::io::Write;
 
 // What the words of the program ask for; or what is wrong with them.
-#[derive(Drop)]
+#[derive(Clone, Copy)]
 pub enum Kind {
     Help,
     NoTask,
@@ -27,7 +28,7 @@ pub enum Kind {
 }
 
 // What is asked for: of an audit the unit and the lines.
-#[derive(Drop)]
+#[derive(Clone, Copy)]
 pub struct Task {
     pub kind: Kind,
     pub tsv: bool,
@@ -38,7 +39,7 @@ pub struct Task {
 }
 
 // Where a run is: the coordinator, the number of the line that is being read and how much of it there is, whether to go on, and the grounds of an audit.
-#[derive(Drop)]
+#[derive(Clone, Copy)]
 pub struct Place {
     pub state: Coordinator,
     pub number: u64,
@@ -48,32 +49,32 @@ pub struct Place {
 }
 
 // "a line that is no statement is told on standard error"
-fn tell_fault(text: &[u8]) -> bool {
+fn tell_fault<E: Write>(errors: &mut E, text: &[u8]) -> io::Result<()> {
     if wire::same(text, b"line ", 5) {
-        return out::write(STDERR_FILENO, text);
+        return out::write(errors, text);
     }
-    true
+    Ok(())
 }
 
 // What is written of a line: the answer, where answers are asked for.
-fn told(kind: Kind, text: &[u8]) -> bool {
+fn told<O: Write, E: Write>(
+    output: &mut O,
+    errors: &mut E,
+    kind: Kind,
+    text: &[u8],
+) -> io::Result<()> {
     match kind {
-        Kind::Replay => out::write(STDOUT_FILENO, text),
-        Kind::Audit => tell_fault(text),
-        Kind::Acl => tell_fault(text),
-        _ => true,
+        Kind::Replay => out::write(output, text),
+        Kind::Audit => tell_fault(errors, text),
+        Kind::Acl => tell_fault(errors, text),
+        _ => Ok(()),
     }
 }
 
-// The next state, and whether to go on.
-#[derive(Drop)]
-pub struct Next {
-    pub state: Coordinator,
-    pub going: bool,
-}
-
-// A line answered, and what is to be told of it written.
-fn answered(
+// A line answered, and what is to be told of it written: the next state.
+fn answered<O: Write, E: Write>(
+    output: &mut O,
+    errors: &mut E,
     kind: Kind,
     state: Coordinator,
     number: u64,
@@ -82,34 +83,21 @@ fn answered(
     second: &mut [u8],
     reply: &mut [u8],
     text: &mut [u8],
-) -> Next
+) -> io::Result<Coordinator>
     requires { (131072 ≤ length first.old) × (131072 ≤ length second.old) × (65536 ≤ length reply.old) × (140000 ≤ length text.old) }
-    ensures { result.state ≡ (step_line state number (read_line line.now)).state }
+    ensures { IfOk result (λ next. next ≡ (step_line state number (read_line line.now)).state) }
 {
     let answered = replaying::answer_line(state, number, line, first, second, reply, text);
     let next = answered.state;
     let size = answered.size;
-    let going = told(kind, &text[..size]);
-    Next {
-        state: next,
-        going: going,
-    }
-}
-
-fn all_of(a: bool, b: bool, c: bool) -> bool
-    ensures { result ≡ (a && (b && c)) }
-{
-    if !a {
-        return false;
-    }
-    if !b {
-        return false;
-    }
-    c
+    told(output, errors, kind, &text[..size])?;
+    Ok(next)
 }
 
 // A whole line: answered, and followed for an audit.
-pub fn step(
+pub fn step<O: Write, E: Write>(
+    output: &mut O,
+    errors: &mut E,
     task: Task,
     p: Place,
     line: &[u8],
@@ -119,28 +107,29 @@ pub fn step(
     text: &mut [u8],
     standing: &mut [u8],
     ended: &mut [u8],
-) -> Place
+) -> io::Result<Place>
     requires lent { Lent first.old second.old reply.old text.old standing.old ended.old }
     requires within { (Within p.grounds) × (p.number + 1 ≤ 18446744073709551615) }
-    ensures state { result.state ≡ (step_line p.state p.number (read_line line.now)).state }
-    ensures place { (result.number ≡ p.number + 1) × (result.used ≡ 0) × Within result.grounds }
-    ensures kept { is_audit task.kind ≡ true → result.going ≡ true → (p.going ≡ true) × (kept_in result.grounds standing.new ended.new ≡ followed (inquiry_of task) p.number (read_line line.now) result.state (kept_in p.grounds standing.old ended.old)) }
+    ensures state { IfOk result (λ r. r.state ≡ (step_line p.state p.number (read_line line.now)).state) }
+    ensures place { IfOk result (λ r. (r.number ≡ p.number + 1) × (r.used ≡ 0) × Within r.grounds) }
+    ensures kept { IfOk result (λ r. is_audit task.kind ≡ true → r.going ≡ true → (p.going ≡ true) × (kept_in r.grounds standing.new ended.new ≡ followed (inquiry_of task) p.number (read_line line.now) r.state (kept_in p.grounds standing.old ended.old))) }
 {
     let kind = task.kind;
     let before = p.state;
     let number = p.number;
     let stood = p.grounds;
-    let told = answered(kind, before, number, line, first, second, reply, text);
-    let state = told.state;
+    let state = answered(
+        output, errors, kind, before, number, line, first, second, reply, text,
+    )?;
     let followed = follow::follow(
-        task, number, line, state, stood, first, second, reply, text, standing, ended,
-    );
+        errors, task, number, line, state, stood, first, second, reply, text, standing, ended,
+    )?;
     let grounds = followed.grounds;
-    Place {
+    Ok(Place {
         state: state,
         number: number + 1,
         used: 0,
-        going: all_of(p.going, told.going, followed.fits),
+        going: p.going && followed.fits,
         grounds: grounds,
-    }
+    })
 }
