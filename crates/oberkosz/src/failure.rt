@@ -22,12 +22,15 @@ fn reason(words: &str) -> &str {
     }
 }
 
-// Says on standard error what failed, and why.
+// Says on standard error what failed, and why. Where whoever read the output has closed it, nothing is left to say.
 pub fn tell(rt: &(impl Eprint + AllocGlobal), failure: Failure) -> io::Result<()> {
     let (what, error) = match failure {
         Failure::Reading(error) => ("read", error),
         Failure::Writing(error) => ("write", error),
     };
+    if error.kind() == io::ErrorKind::BrokenPipe {
+        return Ok(());
+    }
     let words = format!(in rt.alloc(); "{error}")?;
     let why = reason(words.as_str());
     eprintln!(rt; "oberkosz: cannot {what}: {why}")

@@ -169,7 +169,7 @@ fn last_line<O: Write, E: Write>(
     if size == 0 {
         return Ok(p);
     }
-    step::step(
+    let done = step::step(
         output,
         errors,
         task,
@@ -181,7 +181,8 @@ fn last_line<O: Write, E: Write>(
         text,
         standing,
         ended,
-    )
+    )?;
+    Ok(done)
 }
 
 // Where the program is after a read, and whether to read on.
