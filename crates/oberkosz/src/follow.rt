@@ -1,8 +1,8 @@
 // The grounds of a unit, followed for an audit.
-ghost use Rattle.std.specs.Prelude.{◌≡◌, true, ◌≤◌, length, IfOk};
+ghost use Rattle.std.specs.Prelude.{◌≡◌, true, cond, ◌≤◌, length, IfOk};
 ghost use Rattle.journal.specs.Statements.{read_line};
 ghost use Rattle.audit.specs.Room.{Within};
-ghost use Rattle.audit.specs.Following.{kept_in, followed};
+ghost use Rattle.audit.specs.Following.{kept_in, fits as has_room, followed};
 ghost use Rattle.oberkosz.specs.Buffers.{Lent};
 ghost use Rattle.oberkosz.specs.Places.{is_audit, inquiry_of};
 
@@ -60,6 +60,7 @@ pub fn follow<E: Write>(
     requires lent { Lent first.old second.old reply.old text.old standing.old ended.old }
     requires within_2 { Within before }
     ensures within { IfOk result (λ after. Within after.grounds) }
+    ensures fits { IfOk result (λ after. after.fits ≡ cond (is_audit task.kind) (has_room (followed (inquiry_of task) number (read_line line.now) state (kept_in before standing.old ended.old))) true) }
     ensures kept { IfOk result (λ after. is_audit task.kind ≡ true → after.fits ≡ true → kept_in after.grounds standing.new ended.new ≡ followed (inquiry_of task) number (read_line line.now) state (kept_in before standing.old ended.old)) }
 {
     let kind = task.kind;

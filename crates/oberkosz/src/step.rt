@@ -1,9 +1,9 @@
 // One line of a journal: answered, or followed for an audit.
-ghost use Rattle.std.specs.Prelude.{◌≡◌, true, ◌+◌, ◌≤◌, length, IfOk};
+ghost use Rattle.std.specs.Prelude.{◌≡◌, true, cond, ◌&&◌, ◌+◌, ◌≤◌, length, IfOk};
 ghost use Rattle.journal.specs.Statements.{read_line};
 ghost use Rattle.journal.specs.Replay.{step_line};
 ghost use Rattle.audit.specs.Room.{Within};
-ghost use Rattle.audit.specs.Following.{kept_in, followed};
+ghost use Rattle.audit.specs.Following.{kept_in, fits as has_room, followed};
 ghost use Rattle.oberkosz.specs.Buffers.{Lent};
 ghost use Rattle.oberkosz.specs.Places.{is_audit, inquiry_of};
 
@@ -112,6 +112,7 @@ pub fn step<O: Write, E: Write>(
     requires within { (Within p.grounds) × (p.number + 1 ≤ 18446744073709551615) }
     ensures state { IfOk result (λ r. r.state ≡ (step_line p.state p.number (read_line line.now)).state) }
     ensures place { IfOk result (λ r. (r.number ≡ p.number + 1) × (r.used ≡ 0) × Within r.grounds) }
+    ensures going { IfOk result (λ r. r.going ≡ (p.going && cond (is_audit task.kind) (has_room (followed (inquiry_of task) p.number (read_line line.now) r.state (kept_in p.grounds standing.old ended.old))) true)) }
     ensures kept { IfOk result (λ r. is_audit task.kind ≡ true → r.going ≡ true → (p.going ≡ true) × (kept_in r.grounds standing.new ended.new ≡ followed (inquiry_of task) p.number (read_line line.now) r.state (kept_in p.grounds standing.old ended.old))) }
 {
     let kind = task.kind;
