@@ -9,36 +9,41 @@ use paper::{setters, state};
 use standing::rules;
 use std::io;
 
-fn say(rt: &impl Print, name: &str, c: Coordinator) -> io::Result<()> {
+fn say(rt: &impl Print, name: &[u8], c: Coordinator) -> io::Result<()> {
+    rt.write_all(name)?;
     if rules::standing(c) {
-        println!(rt; "{name}: stands")
+        println!(rt; ": stands")
     } else {
-        println!(rt; "{name}: refused 2")
+        println!(rt; ": refused 2")
     }
 }
 
 fn standing_states(rt: &impl Print) -> io::Result<()> {
-    say(rt, "bare", states::bare())?;
-    say(rt, "fresh", states::fresh())?;
-    say(rt, "whole", states::whole())
+    say(rt, b"bare", states::bare())?;
+    say(rt, b"fresh", states::fresh())?;
+    say(rt, b"whole", states::whole())
 }
 
 // "a setup rule"
 fn setup_rules(rt: &impl Print, c: Coordinator) -> io::Result<()> {
-    say(rt, "invalid TransportID", changes::transport_byte(c, 24, 2))?;
-    say(rt, "TransportID twice", changes::transport_byte(c, 47, 0))?;
-    say(rt, "malformed default LUN", changes::last_default(c, 272))?;
-    say(rt, "default LUN twice", changes::last_default(c, 15))
+    say(
+        rt,
+        b"invalid TransportID",
+        changes::transport_byte(c, 24, 2),
+    )?;
+    say(rt, b"TransportID twice", changes::transport_byte(c, 47, 0))?;
+    say(rt, b"malformed default LUN", changes::last_default(c, 272))?;
+    say(rt, b"default LUN twice", changes::last_default(c, 15))
 }
 
 // "a count over its size"
 fn counts(rt: &impl Print, c: Coordinator) -> io::Result<()> {
-    say(rt, "17 initiators", changes::initiators_counted(c, 17))?;
-    say(rt, "33 units", changes::units_counted(c, 33))?;
-    say(rt, "33 ACEs", changes::aces_counted(c, 33))?;
-    say(rt, "17 LUACDs", changes::luacds_counted(c, 17))?;
-    say(rt, "33 tokens", changes::tokens_counted(c, 33))?;
-    say(rt, "33 proxy LUNs", changes::proxies_counted(c, 33))
+    say(rt, b"17 initiators", changes::initiators_counted(c, 17))?;
+    say(rt, b"33 units", changes::units_counted(c, 33))?;
+    say(rt, b"33 ACEs", changes::aces_counted(c, 33))?;
+    say(rt, b"17 LUACDs", changes::luacds_counted(c, 17))?;
+    say(rt, b"33 tokens", changes::tokens_counted(c, 33))?;
+    say(rt, b"33 proxy LUNs", changes::proxies_counted(c, 33))
 }
 
 // "an identifier in two ACEs of its type, a token or one initiator's proxy LUN present twice, a LUN or unit twice in one ACE"
@@ -47,33 +52,33 @@ fn twice(rt: &impl Print, c: Coordinator) -> io::Result<()> {
     let transport = states::id_of(0, 0);
     say(
         rt,
-        "AccessID twice",
+        b"AccessID twice",
         changes::one_more_ace(c, states::granting_all(IdType::AccessId, access)),
     )?;
     say(
         rt,
-        "TransportID in two ACEs",
+        b"TransportID in two ACEs",
         changes::one_more_ace(c, states::granting_all(IdType::TransportId, transport)),
     )?;
     say(
         rt,
-        "token twice",
+        b"token twice",
         changes::one_more_token(c, states::token(5)),
     )?;
     say(
         rt,
-        "proxy LUN twice",
+        b"proxy LUN twice",
         changes::one_more_proxy(c, states::proxy(2, 9)),
     )?;
     let one = states::listing(IdType::AccessId, states::id_of(0xA2, 0), 200, 0);
     say(
         rt,
-        "LUN twice in one ACE",
+        b"LUN twice in one ACE",
         changes::one_more_ace(c, states::and_at(one, 200, 1)),
     )?;
     say(
         rt,
-        "unit twice in one ACE",
+        b"unit twice in one ACE",
         changes::one_more_ace(c, states::and_at(one, 201, 0)),
     )
 }
@@ -89,7 +94,7 @@ fn empty_list(rt: &impl Print, c: Coordinator) -> io::Result<()> {
         count: 0,
         luacds,
     };
-    say(rt, "list without LUACDs", changes::one_more_ace(c, a))
+    say(rt, b"list without LUACDs", changes::one_more_ace(c, a))
 }
 
 // "a malformed LUN or identifier, a zero token"
@@ -97,27 +102,27 @@ fn malformed(rt: &impl Print, c: Coordinator) -> io::Result<()> {
     let id = states::id_of(2, 0);
     say(
         rt,
-        "malformed LUN of a LUACD",
+        b"malformed LUN of a LUACD",
         changes::last_luacd(c, 371, 15),
     )?;
     say(
         rt,
-        "malformed LUN of a token",
+        b"malformed LUN of a token",
         changes::other_token(c, 0, 0, 256),
     )?;
     say(
         rt,
-        "malformed proxy LUN",
+        b"malformed proxy LUN",
         changes::other_proxy(c, 2, 265, 5),
     )?;
     say(
         rt,
-        "malformed identifier",
+        b"malformed identifier",
         changes::one_more_ace(c, states::granting_all(IdType::TransportId, id)),
     )?;
     say(
         rt,
-        "zero token",
+        b"zero token",
         changes::one_more_token(c, states::token(0)),
     )
 }
@@ -126,33 +131,33 @@ fn malformed(rt: &impl Print, c: Coordinator) -> io::Result<()> {
 fn references(rt: &impl Print, c: Coordinator) -> io::Result<()> {
     say(
         rt,
-        "absent unit of a LUACD",
+        b"absent unit of a LUACD",
         changes::last_luacd(c, 115, 17),
     )?;
     say(
         rt,
-        "absent unit of a token",
+        b"absent unit of a token",
         changes::other_token(c, 17, 0, 0),
     )?;
     say(
         rt,
-        "absent initiator of a token",
+        b"absent initiator of a token",
         changes::other_token(c, 0, 3, 0),
     )?;
     say(
         rt,
-        "absent initiator of a proxy LUN",
+        b"absent initiator of a proxy LUN",
         changes::other_proxy(c, 3, 9, 5),
     )?;
-    say(rt, "absent token", changes::other_proxy(c, 2, 9, 6))?;
+    say(rt, b"absent token", changes::other_proxy(c, 2, 9, 6))?;
     say(
         rt,
-        "absent enrolled AccessID",
+        b"absent enrolled AccessID",
         changes::enrolment_byte(c, 26, 0xA2),
     )?;
     say(
         rt,
-        "absent pending AccessID",
+        b"absent pending AccessID",
         changes::enrolment_byte(c, 50, 2),
     )
 }
@@ -162,11 +167,11 @@ fn clashes(rt: &impl Print, c: Coordinator) -> io::Result<()> {
     let id = states::id_of(0, 1);
     let other = states::listing(IdType::TransportId, id, 100, 1);
     let again = states::listing(IdType::TransportId, id, 50, 0);
-    say(rt, "one LUN, two units", changes::one_more_ace(c, other))?;
-    say(rt, "one unit, two LUNs", changes::one_more_ace(c, again))?;
+    say(rt, b"one LUN, two units", changes::one_more_ace(c, other))?;
+    say(rt, b"one unit, two LUNs", changes::one_more_ace(c, again))?;
     say(
         rt,
-        "proxy LUN on another unit's LUN",
+        b"proxy LUN on another unit's LUN",
         changes::other_proxy(c, 0, 9, 5),
     )
 }
@@ -175,17 +180,17 @@ fn clashes(rt: &impl Print, c: Coordinator) -> io::Result<()> {
 fn generations(rt: &impl Print, on: Coordinator, off: Coordinator) -> io::Result<()> {
     say(
         rt,
-        "DLgeneration 0 enabled",
+        b"DLgeneration 0 enabled",
         setters::with_switch(on, true, 0, 7),
     )?;
     say(
         rt,
-        "DLgeneration 2 enabled",
+        b"DLgeneration 2 enabled",
         setters::with_switch(on, true, 2, 7),
     )?;
     say(
         rt,
-        "DLgeneration 1 disabled",
+        b"DLgeneration 1 disabled",
         setters::with_switch(off, false, 1, 0),
     )
 }
@@ -195,17 +200,17 @@ fn disabled(rt: &impl Print, off: Coordinator) -> io::Result<()> {
     let id = states::id_of(0xA1, 0);
     say(
         rt,
-        "ACE while disabled",
+        b"ACE while disabled",
         changes::one_more_ace(off, states::granting_all(IdType::AccessId, id)),
     )?;
     say(
         rt,
-        "token while disabled",
+        b"token while disabled",
         changes::one_more_token(off, states::token(5)),
     )?;
     say(
         rt,
-        "key while disabled",
+        b"key while disabled",
         setters::with_switch(off, false, 0, 7),
     )
 }

@@ -1,17 +1,16 @@
 // The journal on standard input, in chunks, whatever their ends cut.
-ghost use Rattle.std.specs.Prelude.{◌≡◌, true, false, List, ℕ, ◌+◌, ◌≤◌, length, take, IfOk};
+ghost use Rattle.std.specs.Prelude.{◌≡◌, true, false, List, ℕ, ◌+◌, ◌≤◌, length, take};
 ghost use Rattle.audit.specs.Following.{Auditing, begun, fed, ended as atEnd};
 ghost use Rattle.oberkosz.specs.Buffers.{Lent};
 ghost use Rattle.oberkosz.specs.Places.{inquiry_of, At, Sound};
 ghost use Rattle.oberkosz.specs.declared.step.Task.{Task};
 
-use crate::failure::Failure;
+use crate::console::{Console, Failure};
 use crate::step::{Place, Task};
-use crate::{buffers, show, step};
+use crate::{buffers, console, show, step};
 use audit::following::Grounds;
 use coordinator::setup;
 use journal::lines;
-use std::io;
 use std::io::{Read, Write};
 
 // "Before the first setup the coordinator is the one that a refused setup leaves"
@@ -43,8 +42,7 @@ struct Part {
 
 // A chunk up to the end of a line, or all of it.
 fn one_line<O: Write, E: Write>(
-    output: &mut O,
-    errors: &mut E,
+    to: &mut Console<O, E>,
     task: Task,
     p: Place,
     chunk: &[u8],
@@ -55,11 +53,11 @@ fn one_line<O: Write, E: Write>(
     text: &mut [u8],
     standing: &mut [u8],
     ended: &mut [u8],
-) -> io::Result<Part>
+) -> Part
     requires lent { Lent first.old second.old reply.old text.old standing.old ended.old }
     requires in_bounds { (262145 ≤ length line.old) × Sound p × (1 ≤ length chunk.now) × (p.number + 1 ≤ 18446744073709551615) }
-    ensures sound { IfOk result (λ part. Sound part.place × (part.place.number ≤ p.number + 1) × (1 ≤ part.eaten) × (part.eaten ≤ length chunk.now)) }
-    ensures fed { IfOk result (λ part. (x : Auditing) → At task p line.old standing.old ended.old x → At task part.place line.new standing.new ended.new (fed (inquiry_of task) x (take part.eaten chunk.now))) }
+    ensures sound { Sound result.place × (result.place.number ≤ p.number + 1) × (1 ≤ result.eaten) × (result.eaten ≤ length chunk.now) }
+    ensures fed { (x : Auditing) → At task p line.old standing.old ended.old x → At task result.place line.new standing.new ended.new (fed (inquiry_of task) x (take result.eaten chunk.now)) }
 {
     let taken = lines::take_in(line, p.used, chunk);
     let size = taken.used;
@@ -74,14 +72,13 @@ fn one_line<O: Write, E: Write>(
         grounds: grounds,
     };
     if !taken.ended {
-        return Ok(Part {
+        return Part {
             place: q,
             eaten: eaten,
-        });
+        };
     }
     let done = step::step(
-        output,
-        errors,
+        to,
         task,
         q,
         &line[..size],
@@ -91,17 +88,16 @@ fn one_line<O: Write, E: Write>(
         text,
         standing,
         ended,
-    )?;
-    Ok(Part {
+    );
+    Part {
         place: done,
         eaten: eaten,
-    })
+    }
 }
 
-// A chunk, line by line.
+// A chunk, line by line, unless the output fails.
 fn fed<O: Write, E: Write>(
-    output: &mut O,
-    errors: &mut E,
+    to: &mut Console<O, E>,
     task: Task,
     p: Place,
     chunk: &[u8],
@@ -112,18 +108,17 @@ fn fed<O: Write, E: Write>(
     text: &mut [u8],
     standing: &mut [u8],
     ended: &mut [u8],
-) -> io::Result<Place>
+) -> Place
     requires lent { Lent first.old second.old reply.old text.old standing.old ended.old }
     requires in_bounds { (262145 ≤ length line.old) × Sound p × (p.number + length chunk.now ≤ 18446744073709551615) }
-    ensures sound { IfOk result (λ r. Sound r × (r.number ≤ p.number + length chunk.now)) }
-    ensures fed { IfOk result (λ r. (x : Auditing) → At task p line.old standing.old ended.old x → r.going ≡ true → At task r line.new standing.new ended.new (fed (inquiry_of task) x chunk.now)) }
+    ensures sound { Sound result × (result.number ≤ p.number + length chunk.now) }
+    ensures fed { (x : Auditing) → At task p line.old standing.old ended.old x → result.going ≡ true → At task result line.new standing.new ended.new (fed (inquiry_of task) x chunk.now) }
 {
     let mut q = p;
     let mut k = 0;
     while k < chunk.len() {
         let part = one_line(
-            output,
-            errors,
+            to,
             task,
             q,
             &chunk[k..],
@@ -134,22 +129,21 @@ fn fed<O: Write, E: Write>(
             text,
             standing,
             ended,
-        )?;
+        );
         let place = part.place;
         if !place.going {
-            return Ok(place);
+            return place;
         }
         q = place;
         let eaten = part.eaten;
         k += eaten;
     }
-    Ok(q)
+    q
 }
 
 // "a last line with no LF counts as a line"
 fn last_line<O: Write, E: Write>(
-    output: &mut O,
-    errors: &mut E,
+    to: &mut Console<O, E>,
     task: Task,
     p: Place,
     line: &mut [u8],
@@ -159,19 +153,18 @@ fn last_line<O: Write, E: Write>(
     text: &mut [u8],
     standing: &mut [u8],
     ended: &mut [u8],
-) -> io::Result<Place>
+) -> Place
     requires lent { Lent first.old second.old reply.old text.old standing.old ended.old }
     requires in_bounds { (262145 ≤ length line.old) × Sound p × (p.number + 1 ≤ 18446744073709551615) }
-    ensures sound { IfOk result (λ r. Sound r) }
-    ensures ended { IfOk result (λ r. (x : Auditing) → At task p line.old standing.old ended.old x → At task r line.new standing.new ended.new (atEnd (inquiry_of task) x)) }
+    ensures sound { Sound result }
+    ensures ended { (x : Auditing) → At task p line.old standing.old ended.old x → At task result line.new standing.new ended.new (atEnd (inquiry_of task) x) }
 {
     let size = p.used;
     if size == 0 {
-        return Ok(p);
+        return p;
     }
-    let done = step::step(
-        output,
-        errors,
+    step::step(
+        to,
         task,
         p,
         &line[..size],
@@ -181,8 +174,7 @@ fn last_line<O: Write, E: Write>(
         text,
         standing,
         ended,
-    )?;
-    Ok(done)
+    )
 }
 
 // Where the program is after a read, and whether to read on.
@@ -192,11 +184,25 @@ struct Turn {
     more: bool,
 }
 
-// One read of the journal, and what it brings; at its end the last line. What was read of a journal that cannot be read on says nothing of the whole: nothing is shown.
+// What was read of a journal that cannot be read on says nothing of the whole: nothing is shown.
+fn stopped(p: Place) -> Place
+    ensures { (result.used ≡ p.used) × (result.grounds ≡ p.grounds) × (result.going ≡ false) }
+{
+    let state = p.state;
+    let grounds = p.grounds;
+    Place {
+        state: state,
+        number: p.number,
+        used: p.used,
+        going: false,
+        grounds: grounds,
+    }
+}
+
+// One read of the journal, and what it brings; at its end the last line.
 fn one_chunk<I: Read, O: Write, E: Write>(
     input: &mut I,
-    output: &mut O,
-    errors: &mut E,
+    to: &mut Console<O, E>,
     task: Task,
     p: Place,
     chunk: &mut [u8],
@@ -207,24 +213,32 @@ fn one_chunk<I: Read, O: Write, E: Write>(
     text: &mut [u8],
     standing: &mut [u8],
     ended: &mut [u8],
-) -> Result<Turn, Failure>
+) -> Turn
     requires lent { Lent first.old second.old reply.old text.old standing.old ended.old }
     requires in_bounds { (262145 ≤ length line.old) × (length chunk.old ≡ 65536) × Sound p × (p.number + 65536 ≤ 18446744073709551615) }
-    ensures { IfOk result (λ turn. Sound turn.place × (turn.more ≡ true → turn.place.number ≤ p.number + 65536)) }
+    ensures { Sound result.place × (result.more ≡ true → result.place.number ≤ p.number + 65536) }
 {
-    let n = input.read(chunk).map_err(Failure::Reading)?;
+    let n = match input.read(chunk) {
+        Ok(n) => n,
+        Err(error) => {
+            to.failure = Some(Failure::Reading(error));
+            return Turn {
+                place: stopped(p),
+                more: false,
+            };
+        }
+    };
     if n == 0 {
         let done = last_line(
-            output, errors, task, p, line, first, second, reply, text, standing, ended,
-        )?;
-        return Ok(Turn {
+            to, task, p, line, first, second, reply, text, standing, ended,
+        );
+        return Turn {
             place: done,
             more: false,
-        });
+        };
     }
     let place = fed(
-        output,
-        errors,
+        to,
         task,
         p,
         &chunk[..n],
@@ -235,18 +249,17 @@ fn one_chunk<I: Read, O: Write, E: Write>(
         text,
         standing,
         ended,
-    )?;
-    Ok(Turn {
+    );
+    Turn {
         place: place,
         more: place.going,
-    })
+    }
 }
 
 // Reads the journal to its end. A proved loop has to end, and nothing says that an input does: so it counts its turns down, from a number that no run uses up, and that keeps the number of lines below 2^64.
 fn read_through<I: Read, O: Write, E: Write>(
     input: &mut I,
-    output: &mut O,
-    errors: &mut E,
+    to: &mut Console<O, E>,
     task: Task,
     chunk: &mut [u8],
     line: &mut [u8],
@@ -256,34 +269,28 @@ fn read_through<I: Read, O: Write, E: Write>(
     text: &mut [u8],
     standing: &mut [u8],
     ended: &mut [u8],
-) -> Result<Place, Failure>
+) -> Place
     requires lent { Lent first.old second.old reply.old text.old standing.old ended.old }
     requires in_bounds { (262145 ≤ length line.old) × (length chunk.old ≡ 65536) }
-    ensures { IfOk result (λ r. Sound r) }
+    ensures { Sound result }
 {
     let mut p = begun();
     let mut turns: u64 = 281474976710654;
     while 0 < turns {
         let turn = one_chunk(
-            input, output, errors, task, p, chunk, line, first, second, reply, text, standing,
-            ended,
-        )?;
+            input, to, task, p, chunk, line, first, second, reply, text, standing, ended,
+        );
         let place = turn.place;
         if !turn.more {
-            return Ok(place);
+            return place;
         }
         p = place;
         turns -= 1;
     }
-    Ok(p)
+    p
 }
 
-pub fn run<I: Read, O: Write, E: Write>(
-    task: Task,
-    input: &mut I,
-    output: &mut O,
-    errors: &mut E,
-) -> Result<(), Failure> {
+pub fn run<I: Read, O: Write, E: Write>(task: Task, input: &mut I, to: &mut Console<O, E>) {
     let mut chunk = buffers::for_chunk();
     let mut line = buffers::for_line();
     let mut first = buffers::for_bytes();
@@ -294,8 +301,7 @@ pub fn run<I: Read, O: Write, E: Write>(
     let mut ended = buffers::for_ended();
     let p = read_through(
         input,
-        output,
-        errors,
+        to,
         task,
         &mut chunk,
         &mut line,
@@ -305,7 +311,7 @@ pub fn run<I: Read, O: Write, E: Write>(
         &mut text,
         &mut standing,
         &mut ended,
-    )?;
-    show::show(output, task, p, &standing, &ended, &mut text)?;
-    Ok(())
+    );
+    let shown = show::show(&mut to.output, task, p, &standing, &ended, &mut text);
+    console::note(to, shown);
 }

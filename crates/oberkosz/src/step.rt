@@ -1,18 +1,17 @@
 // One line of a journal: answered, or followed for an audit.
-ghost use Rattle.std.specs.Prelude.{◌≡◌, true, cond, ◌&&◌, ◌+◌, ◌≤◌, length, IfOk};
+ghost use Rattle.std.specs.Prelude.{◌≡◌, true, ◌&&◌, ◌+◌, ◌≤◌, length};
 ghost use Rattle.journal.specs.Statements.{read_line};
 ghost use Rattle.journal.specs.Replay.{step_line};
 ghost use Rattle.audit.specs.Room.{Within};
-ghost use Rattle.audit.specs.Following.{kept_in, fits as has_room, followed};
+ghost use Rattle.audit.specs.Following.{kept_in, followed};
 ghost use Rattle.oberkosz.specs.Buffers.{Lent};
 ghost use Rattle.oberkosz.specs.Places.{is_audit, inquiry_of};
 
-use crate::follow;
+use crate::console::Console;
+use crate::{console, follow};
 use audit::following::Grounds;
 use journal::replaying;
 use paper::state::Coordinator;
-use showing::out;
-use std::io;
 use std::io::Write;
 
 // What the words of the program ask for; or what is wrong with them.
@@ -49,32 +48,33 @@ pub struct Place {
 }
 
 // "a line that is no statement is told on standard error"
-fn tell_fault<E: Write>(errors: &mut E, text: &[u8]) -> io::Result<()> {
+fn tell_fault<O: Write, E: Write>(to: &mut Console<O, E>, text: &[u8]) -> bool {
     if wire::same(text, b"line ", 5) {
-        return out::write(errors, text);
+        return console::warn(to, text);
     }
-    Ok(())
+    true
 }
 
 // What is written of a line: the answer, where answers are asked for.
-fn told<O: Write, E: Write>(
-    output: &mut O,
-    errors: &mut E,
-    kind: Kind,
-    text: &[u8],
-) -> io::Result<()> {
+fn told<O: Write, E: Write>(to: &mut Console<O, E>, kind: Kind, text: &[u8]) -> bool {
     match kind {
-        Kind::Replay => out::write(output, text),
-        Kind::Audit => tell_fault(errors, text),
-        Kind::Acl => tell_fault(errors, text),
-        _ => Ok(()),
+        Kind::Replay => console::answer(to, text),
+        Kind::Audit => tell_fault(to, text),
+        Kind::Acl => tell_fault(to, text),
+        _ => true,
     }
 }
 
-// A line answered, and what is to be told of it written: the next state.
+// The next state, and whether to go on.
+#[derive(Clone, Copy)]
+pub struct Next {
+    pub state: Coordinator,
+    pub going: bool,
+}
+
+// A line answered, and what is to be told of it written.
 fn answered<O: Write, E: Write>(
-    output: &mut O,
-    errors: &mut E,
+    to: &mut Console<O, E>,
     kind: Kind,
     state: Coordinator,
     number: u64,
@@ -83,21 +83,35 @@ fn answered<O: Write, E: Write>(
     second: &mut [u8],
     reply: &mut [u8],
     text: &mut [u8],
-) -> io::Result<Coordinator>
+) -> Next
     requires { (131072 ≤ length first.old) × (131072 ≤ length second.old) × (65536 ≤ length reply.old) × (140000 ≤ length text.old) }
-    ensures { IfOk result (λ next. next ≡ (step_line state number (read_line line.now)).state) }
+    ensures { result.state ≡ (step_line state number (read_line line.now)).state }
 {
     let answered = replaying::answer_line(state, number, line, first, second, reply, text);
     let next = answered.state;
     let size = answered.size;
-    told(output, errors, kind, &text[..size])?;
-    Ok(next)
+    let going = told(to, kind, &text[..size]);
+    Next {
+        state: next,
+        going: going,
+    }
+}
+
+fn all_of(a: bool, b: bool, c: bool) -> bool
+    ensures { result ≡ (a && (b && c)) }
+{
+    if !a {
+        return false;
+    }
+    if !b {
+        return false;
+    }
+    c
 }
 
 // A whole line: answered, and followed for an audit.
 pub fn step<O: Write, E: Write>(
-    output: &mut O,
-    errors: &mut E,
+    to: &mut Console<O, E>,
     task: Task,
     p: Place,
     line: &[u8],
@@ -107,30 +121,28 @@ pub fn step<O: Write, E: Write>(
     text: &mut [u8],
     standing: &mut [u8],
     ended: &mut [u8],
-) -> io::Result<Place>
+) -> Place
     requires lent { Lent first.old second.old reply.old text.old standing.old ended.old }
     requires within { (Within p.grounds) × (p.number + 1 ≤ 18446744073709551615) }
-    ensures state { IfOk result (λ r. r.state ≡ (step_line p.state p.number (read_line line.now)).state) }
-    ensures place { IfOk result (λ r. (r.number ≡ p.number + 1) × (r.used ≡ 0) × Within r.grounds) }
-    ensures going { IfOk result (λ r. r.going ≡ (p.going && cond (is_audit task.kind) (has_room (followed (inquiry_of task) p.number (read_line line.now) r.state (kept_in p.grounds standing.old ended.old))) true)) }
-    ensures kept { IfOk result (λ r. is_audit task.kind ≡ true → r.going ≡ true → (p.going ≡ true) × (kept_in r.grounds standing.new ended.new ≡ followed (inquiry_of task) p.number (read_line line.now) r.state (kept_in p.grounds standing.old ended.old))) }
+    ensures state { result.state ≡ (step_line p.state p.number (read_line line.now)).state }
+    ensures place { (result.number ≡ p.number + 1) × (result.used ≡ 0) × Within result.grounds }
+    ensures kept { is_audit task.kind ≡ true → result.going ≡ true → (p.going ≡ true) × (kept_in result.grounds standing.new ended.new ≡ followed (inquiry_of task) p.number (read_line line.now) result.state (kept_in p.grounds standing.old ended.old)) }
 {
     let kind = task.kind;
     let before = p.state;
     let number = p.number;
     let stood = p.grounds;
-    let state = answered(
-        output, errors, kind, before, number, line, first, second, reply, text,
-    )?;
+    let told = answered(to, kind, before, number, line, first, second, reply, text);
+    let state = told.state;
     let followed = follow::follow(
-        errors, task, number, line, state, stood, first, second, reply, text, standing, ended,
-    )?;
+        to, task, number, line, state, stood, first, second, reply, text, standing, ended,
+    );
     let grounds = followed.grounds;
-    Ok(Place {
+    Place {
         state: state,
         number: number + 1,
         used: 0,
-        going: p.going && followed.fits,
+        going: all_of(p.going, told.going, followed.fits),
         grounds: grounds,
-    })
+    }
 }

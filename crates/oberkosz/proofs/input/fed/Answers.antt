@@ -9,13 +9,13 @@ loop-k-init g c =
 
 pub loop-k-preserved : goal.loop-k-preserved
 loop-k-preserved g c =
-    let seen = c.in_ok-part.ensures.sound in
+    let seen = c.one_line-part.ensures.sound in
     let left = rest_length c.loop-k.k c.args.chunk.now in
     let was = c.loop-k.invariant in (
       omega (arith, seen.2, seen.3, left, c.loop-k-test.true),
       seen.0,
       omega (arith, seen.1, was.2, seen.2, seen.3, left, c.loop-k-test.true),
-      λ x a. fed_more _ _ _ _ _ x c.args.chunk.now c.loop-k.k c.in_ok-part.part.eaten (c.in_ok-part.ensures.fed _ (was.3 x a)),
+      λ x a. fed_more _ _ _ _ _ x c.args.chunk.now c.loop-k.k c.one_line-part.result.eaten (c.one_line-part.ensures.fed _ (was.3 x a)),
     )
 
 pub returns-clause-fed : goal.returns-clause-fed

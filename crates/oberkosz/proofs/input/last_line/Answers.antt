@@ -7,6 +7,6 @@ returns-then-size-eq0-clause-ended g c = λ x a. ended_none _ c.requires.in_boun
 
 pub returns-clause-ended : goal.returns-clause-ended
 returns-clause-ended g c =
-    let done = c.in_ok-done.ensures in
+    let done = c.step.ensures in
     λ x a.
     ended_some _ c.requires.in_bounds.0 a c.requires.in_bounds.1.used_fits c.if-size-eq0.false done.state done.place.0 done.place.1 done.kept
