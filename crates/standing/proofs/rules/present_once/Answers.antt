@@ -1,21 +1,12 @@
 -- The tokens first, and then the proxy LUNs decide.
-use borrow.Author.Rules.{rules}
 use borrow.Author.Tests.{not-true, not-false}
 use Rattle.lists.proofs.Places.{and_no, and_yes}
 use Rattle.paper.specs.Standing.{present_once}
 use Rattle.standing.proofs.rules.present_once.Goals as goal
 
-pub tokens_once-requires : goal.tokens_once-requires
-unfolding present_once
-tokens_once-requires c = search rules
-
 pub returns-then-not-tokens_once : goal.returns-then-not-tokens_once
 unfolding present_once
 returns-then-not-tokens_once c = and_no _ c.tokens_once.ensures (not-true _ c.if-not-tokens_once.true-raw)
-
-pub proxies_once-requires : goal.proxies_once-requires
-unfolding present_once
-proxies_once-requires c = search rules
 
 pub returns : goal.returns
 unfolding present_once

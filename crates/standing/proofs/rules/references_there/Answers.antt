@@ -1,37 +1,20 @@
 -- The ACEs, the tokens and the proxy LUNs first, and then the enrolments decide.
-use borrow.Author.Rules.{rules}
 use borrow.Author.Tests.{not-true, not-false}
 use Rattle.lists.proofs.Places.{and_no, and_yes}
 use Rattle.paper.specs.Standing.{references_there}
 use Rattle.standing.proofs.rules.references_there.Goals as goal
 
-pub aces_keep-requires : goal.aces_keep-requires
-unfolding references_there
-aces_keep-requires c = search rules
-
 pub returns-then-not-aces_keep : goal.returns-then-not-aces_keep
 unfolding references_there
 returns-then-not-aces_keep c = and_no _ c.aces_keep.ensures (not-true _ c.if-not-aces_keep.true-raw)
-
-pub tokens_keep-requires : goal.tokens_keep-requires
-unfolding references_there
-tokens_keep-requires c = search rules
 
 pub returns-then-not-tokens_keep : goal.returns-then-not-tokens_keep
 unfolding references_there
 returns-then-not-tokens_keep c = and_yes c.aces_keep.ensures (not-false _ c.if-not-aces_keep.false-raw) (and_no _ c.tokens_keep.ensures (not-true _ c.if-not-tokens_keep.true-raw))
 
-pub proxies_refer-requires : goal.proxies_refer-requires
-unfolding references_there
-proxies_refer-requires c = search rules
-
 pub returns-then-not-proxies_refer : goal.returns-then-not-proxies_refer
 unfolding references_there
 returns-then-not-proxies_refer c = and_yes c.aces_keep.ensures (not-false _ c.if-not-aces_keep.false-raw) (and_yes c.tokens_keep.ensures (not-false _ c.if-not-tokens_keep.false-raw) (and_no _ c.proxies_refer.ensures (not-true _ c.if-not-proxies_refer.true-raw)))
-
-pub enrolments_refer-requires : goal.enrolments_refer-requires
-unfolding references_there
-enrolments_refer-requires c = search rules
 
 pub returns : goal.returns
 unfolding references_there

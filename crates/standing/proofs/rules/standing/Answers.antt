@@ -4,76 +4,39 @@ use Rattle.paper.proofs.Stood.{stood, counted}
 use Rattle.paper.specs.Standing.{standing}
 use borrow.Author.Tests.{not-false}
 use mathlib.Core.Path.{sym, ◌∙◌}
-use borrow.Author.Rules.{rules}
 use Rattle.standing.proofs.rules.standing.Goals as goal
-
-pub setup_kept-requires : goal.setup_kept-requires
-unfolding standing
-setup_kept-requires c = search rules
 
 pub returns-then-not-setup_kept : goal.returns-then-not-setup_kept
 unfolding standing
 returns-then-not-setup_kept c = refused _ (λ s. (stood _ s).setup) c.setup_kept.ensures c.if-not-setup_kept.true-raw
 
-pub within_sizes-requires : goal.within_sizes-requires
-unfolding standing
-within_sizes-requires c = search rules
-
 pub returns-then-not-within_sizes : goal.returns-then-not-within_sizes
 unfolding standing
 returns-then-not-within_sizes c = refused _ (λ s. (stood _ s).counts) c.within_sizes.ensures c.if-not-within_sizes.true-raw
-
-pub identifiers_once-requires : goal.identifiers_once-requires
-unfolding standing
-identifiers_once-requires c = search rules
 
 pub returns-then-not-identifiers_once : goal.returns-then-not-identifiers_once
 unfolding standing
 returns-then-not-identifiers_once c = refused _ (λ s. (stood _ s).identifiers) c.identifiers_once.ensures c.if-not-identifiers_once.true-raw
 
-pub present_once-requires : goal.present_once-requires
-unfolding standing
-present_once-requires c = search rules
-
 pub returns-then-not-present_once : goal.returns-then-not-present_once
 unfolding standing
 returns-then-not-present_once c = refused _ (λ s. (stood _ s).proxies) c.present_once.ensures c.if-not-present_once.true-raw
-
-pub luacds_once-requires : goal.luacds_once-requires
-unfolding standing
-luacds_once-requires c = search rules
 
 pub returns-then-not-luacds_once : goal.returns-then-not-luacds_once
 unfolding standing
 returns-then-not-luacds_once c = refused _ (λ s. (stood _ s).luacds) c.luacds_once.ensures c.if-not-luacds_once.true-raw
 
-pub lists_filled-requires : goal.lists_filled-requires
-unfolding standing
-lists_filled-requires c = search rules
-
 pub returns-then-not-lists_filled : goal.returns-then-not-lists_filled
 unfolding standing
 returns-then-not-lists_filled c = refused _ (λ s. (stood _ s).lists) c.lists_filled.ensures c.if-not-lists_filled.true-raw
-
-pub well_formed-requires : goal.well_formed-requires
-unfolding standing
-well_formed-requires c = search rules
 
 pub returns-then-not-well_formed : goal.returns-then-not-well_formed
 unfolding standing
 returns-then-not-well_formed c = refused _ (λ s. (stood _ s).forms) c.well_formed-2.ensures c.if-not-well_formed.true-raw
 
-pub tokens_nonzero-requires : goal.tokens_nonzero-requires
-unfolding standing
-tokens_nonzero-requires c = search rules
-
 pub returns-then-not-tokens_nonzero : goal.returns-then-not-tokens_nonzero
 unfolding standing
 returns-then-not-tokens_nonzero c = refused _ (λ s. (stood _ s).tokens) c.tokens_nonzero.ensures c.if-not-tokens_nonzero.true-raw
-
-pub references_there-requires : goal.references_there-requires
-unfolding standing
-references_there-requires c = search rules
 
 pub returns-then-not-references_there : goal.returns-then-not-references_there
 unfolding standing
@@ -87,17 +50,9 @@ pub returns-then-not-no_clash : goal.returns-then-not-no_clash
 unfolding standing
 returns-then-not-no_clash c = refused _ (λ s. (stood _ s).clashes) c.no_clash.ensures c.if-not-no_clash.true-raw
 
-pub generation_right-requires : goal.generation_right-requires
-unfolding standing
-generation_right-requires c = search rules
-
 pub returns-then-not-generation_right : goal.returns-then-not-generation_right
 unfolding standing
 returns-then-not-generation_right c = refused _ (λ s. (stood _ s).generation) c.generation_right.ensures c.if-not-generation_right.true-raw
-
-pub empty_while_off-requires : goal.empty_while_off-requires
-unfolding standing
-empty_while_off-requires c = search rules
 
 pub returns : goal.returns
 unfolding standing

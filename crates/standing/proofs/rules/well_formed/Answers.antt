@@ -1,29 +1,16 @@
 -- The ACEs and the tokens first, and then the proxy LUNs decide.
-use borrow.Author.Rules.{rules}
 use borrow.Author.Tests.{not-true, not-false}
 use Rattle.lists.proofs.Places.{and_no, and_yes}
 use Rattle.paper.specs.Standing.{well_formed}
 use Rattle.standing.proofs.rules.well_formed.Goals as goal
 
-pub aces_keep-requires : goal.aces_keep-requires
-unfolding well_formed
-aces_keep-requires c = search rules
-
 pub returns-then-not-aces_keep : goal.returns-then-not-aces_keep
 unfolding well_formed
 returns-then-not-aces_keep c = and_no _ c.aces_keep.ensures (not-true _ c.if-not-aces_keep.true-raw)
 
-pub tokens_keep-requires : goal.tokens_keep-requires
-unfolding well_formed
-tokens_keep-requires c = search rules
-
 pub returns-then-not-tokens_keep : goal.returns-then-not-tokens_keep
 unfolding well_formed
 returns-then-not-tokens_keep c = and_yes c.aces_keep.ensures (not-false _ c.if-not-aces_keep.false-raw) (and_no _ c.tokens_keep.ensures (not-true _ c.if-not-tokens_keep.true-raw))
-
-pub proxies_formed-requires : goal.proxies_formed-requires
-unfolding well_formed
-proxies_formed-requires c = search rules
 
 pub returns : goal.returns
 unfolding well_formed

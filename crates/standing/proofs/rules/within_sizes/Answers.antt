@@ -1,6 +1,5 @@
 -- Each count in turn, and the last one decides.
 use mathlib.Core.Path.{refl}
-use borrow.Author.Rules.{rules}
 use borrow.Author.Tests.{le-leb, lt-leb, not-true, not-false}
 use Rattle.lists.proofs.Places.{and_no, and_yes}
 use Rattle.paper.specs.Standing.{within_sizes}
@@ -17,10 +16,6 @@ returns-then-c-gt32 c = and_yes refl (le-leb _ _ c.if-c-gt16.false) (and_no _ re
 pub returns-then-c-gt32-2 : goal.returns-then-c-gt32-2
 unfolding within_sizes
 returns-then-c-gt32-2 c = and_yes refl (le-leb _ _ c.if-c-gt16.false) (and_yes refl (le-leb _ _ c.if-c-gt32.false) (and_no _ refl (lt-leb _ _ c.if-c-gt32-2.true)))
-
-pub aces_keep-requires : goal.aces_keep-requires
-unfolding within_sizes
-aces_keep-requires c = search rules
 
 pub returns-then-not-aces_keep : goal.returns-then-not-aces_keep
 unfolding within_sizes
