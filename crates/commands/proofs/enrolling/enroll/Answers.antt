@@ -1,60 +1,27 @@
 -- The tests are those of the definition, in its order; the clash is looked for in the rows after the enrolment.
 use mathlib.Core.Path.{◌∙◌, sym, ap}
 use mathlib.Core.Bool.{not}
-use borrow.Author.Rules.{rules}
 use Rattle.paper.specs.Applied.{applied, applied_all}
 use Rattle.paper.specs.Commands.{enroll_tests}
 use Rattle.paper.specs.Rows.{rows_of}
 use Rattle.rows.proofs.Clashing.{clash_built}
 use Rattle.commands.proofs.enrolling.enroll.Goals as goal
 
-pub is_elsewhere-requires : goal.is_elsewhere-requires
-unfolding enroll_tests applied applied_all
-is_elsewhere-requires c = search rules
-
-pub checked-requires : goal.checked-requires
-unfolding enroll_tests applied applied_all
-checked-requires c = search rules
-
 pub returns-then-is_elsewhere : goal.returns-then-is_elsewhere
 unfolding enroll_tests applied applied_all
 returns-then-is_elsewhere c = rw (sym c.is_elsewhere.ensures ∙ c.if-is_elsewhere.true) c.checked.ensures
-
-pub has_ace-requires : goal.has_ace-requires
-unfolding enroll_tests applied applied_all
-has_ace-requires c = search rules
-
-pub checked-requires-then-not-has_ace : goal.checked-requires-then-not-has_ace
-unfolding enroll_tests applied applied_all
-checked-requires-then-not-has_ace c = search rules
 
 pub returns-then-not-has_ace : goal.returns-then-not-has_ace
 unfolding enroll_tests applied applied_all
 returns-then-not-has_ace c = rw (sym c.is_elsewhere.ensures ∙ c.if-is_elsewhere.false, ap not (sym c.has_ace.ensures) ∙ c.if-not-has_ace.true-raw) c.checked-then-not-has_ace.ensures
 
-pub with_joined-next-requires : goal.with_joined-next-requires
-unfolding enroll_tests applied applied_all
-with_joined-next-requires c = search rules
-
 pub rows_of-requires : goal.rows_of-requires
 unfolding enroll_tests applied applied_all
 rows_of-requires c = rw c.with_joined-next.ensures (record { there = c.requires.there; few = c.requires.few })
 
-pub clash_in-requires : goal.clash_in-requires
-unfolding enroll_tests applied applied_all
-clash_in-requires c = search rules
-
-pub checked-requires-then-clash_in : goal.checked-requires-then-clash_in
-unfolding enroll_tests applied applied_all
-checked-requires-then-clash_in c = search rules
-
 pub returns-then-clash_in : goal.returns-then-clash_in
 unfolding enroll_tests applied applied_all
 returns-then-clash_in c = rw (sym c.is_elsewhere.ensures ∙ c.if-is_elsewhere.false, ap not (sym c.has_ace.ensures) ∙ c.if-not-has_ace.false-raw, rw c.with_joined-next.ensures at (sym (clash_built (rows_of c.with_joined-next.result c.args.i) c.rows_of.ensures c.clash_in.ensures) ∙ c.if-clash_in.true)) c.checked-then-clash_in.ensures
-
-pub handed_back-requires : goal.handed_back-requires
-unfolding enroll_tests applied applied_all
-handed_back-requires c = search rules
 
 pub returns : goal.returns
 unfolding enroll_tests applied applied_all

@@ -2,28 +2,11 @@
 use Rattle.paper.specs.Applied.{applied, applied_all}
 use Rattle.paper.specs.Commands.{key_tests}
 use mathlib.Core.Path.{◌∙◌, sym}
-use borrow.Author.Rules.{rules}
 use Rattle.commands.proofs.switching.disable.Goals as goal
-
-pub wrong_key-requires : goal.wrong_key-requires
-unfolding key_tests applied applied_all
-wrong_key-requires c = search rules
-
-pub checked-requires : goal.checked-requires
-unfolding key_tests applied applied_all
-checked-requires c = search rules
 
 pub returns-then-wrong_key : goal.returns-then-wrong_key
 unfolding key_tests applied applied_all
 returns-then-wrong_key c = rw (sym c.wrong_key.ensures ∙ c.if-wrong_key.true) c.checked.ensures
-
-pub emptied-requires : goal.emptied-requires
-unfolding key_tests applied applied_all
-emptied-requires c = search rules
-
-pub handed_back-requires : goal.handed_back-requires
-unfolding key_tests applied applied_all
-handed_back-requires c = search rules
 
 pub returns : goal.returns
 unfolding key_tests applied applied_all
