@@ -1,34 +1,13 @@
 -- The first of the phases on the list that fails answers; a list that passes them is put into effect.
 use mathlib.Core.Path.{sym, ◌∙◌}
-use borrow.Author.Rules.{rules}
 use borrow.Author.Tests.{not-true, not-false}
 use Rattle.paper.specs.Commands.{malformed}
 use Rattle.manage.proofs.Phases.{fails_1, fails_2, fails_3, fails_4}
 use Rattle.manage.proofs.command.manage_acl.Goals as goal
 
-pub all_whole-requires : goal.all_whole-requires
-unfolding malformed
-all_whole-requires c = search rules
-
-pub checked-requires : goal.checked-requires
-unfolding malformed
-checked-requires c = search rules
-
 pub returns-then-not-all_whole : goal.returns-then-not-all_whole
 unfolding malformed
 returns-then-not-all_whole c = c.checked.ensures ∙ fails_1 _ _ (sym c.all_whole.ensures ∙ not-true _ c.if-not-all_whole.true-raw)
-
-pub key_in-requires : goal.key_in-requires
-unfolding malformed
-key_in-requires c = search rules
-
-pub wrong_key-requires : goal.wrong_key-requires
-unfolding malformed
-wrong_key-requires c = search rules
-
-pub checked-requires-then-wrong_key : goal.checked-requires-then-wrong_key
-unfolding malformed
-checked-requires-then-wrong_key c = search rules
 
 pub returns-then-wrong_key : goal.returns-then-wrong_key
 unfolding malformed
@@ -36,28 +15,12 @@ returns-then-wrong_key c =
     let whole = sym c.all_whole.ensures ∙ not-false _ c.if-not-all_whole.false-raw in
     c.checked-then-wrong_key.ensures ∙ fails_2 _ _ whole (sym (rw c.key_in.ensures at c.wrong_key.ensures) ∙ c.if-wrong_key.true)
 
-pub malformed-requires : goal.malformed-requires
-unfolding malformed
-malformed-requires c = search rules
-
-pub checked-requires-then-malformed : goal.checked-requires-then-malformed
-unfolding malformed
-checked-requires-then-malformed c = search rules
-
 pub returns-then-malformed : goal.returns-then-malformed
 unfolding malformed
 returns-then-malformed c =
     let whole = sym c.all_whole.ensures ∙ not-false _ c.if-not-all_whole.false-raw in
     let key = sym (rw c.key_in.ensures at c.wrong_key.ensures) ∙ c.if-wrong_key.false in
     c.checked-then-malformed.ensures ∙ fails_3 _ _ whole key (sym c.malformed.ensures ∙ c.if-malformed.true)
-
-pub some_bad_place-requires : goal.some_bad_place-requires
-unfolding malformed
-some_bad_place-requires c = search rules
-
-pub checked-requires-then-some_bad_place : goal.checked-requires-then-some_bad_place
-unfolding malformed
-checked-requires-then-some_bad_place c = search rules
 
 pub returns-then-some_bad_place : goal.returns-then-some_bad_place
 unfolding malformed

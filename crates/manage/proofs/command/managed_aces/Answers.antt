@@ -20,10 +20,6 @@ slice_bounds-aces_after-end c =
     let size : length c.args.units.luns ≡ 32 = search (length_mapped, rules) in
     sym (length-take-le _ _ (omega (arith, c.requires.1)))
 
-pub pages_in-requires : goal.pages_in-requires
-unfolding ace_pages
-pages_in-requires c = search rules
-
 pub aces_after-requires : goal.aces_after-requires
 unfolding ace_pages
 aces_after-requires c = (c.requires.0, omega (arith, length-take c.args.units.count c.args.units.luns, c.requires.1))

@@ -1,38 +1,21 @@
 -- Each early return is one test of the definition, in its order.
-use borrow.Author.Rules.{rules}
 use borrow.Author.Tests.{eq-eqb, ne_eqb, not-true, not-false}
 use mathlib.Core.Path.{sym, ◌∙◌}
 use mathlib.Core.Bool.{or-true, or-false}
 use Rattle.manage.specs.EndState.{ends_under}
 use Rattle.manage.proofs.enrolments.ends_under.Goals as goal
 
-pub is_grant-requires : goal.is_grant-requires
-unfolding ends_under
-is_grant-requires c = search rules
-
 pub returns-then-not-is_grant : goal.returns-then-not-is_grant
 unfolding ends_under
 returns-then-not-is_grant c = rw (sym c.is_grant.ensures ∙ not-true _ c.if-not-is_grant.true-raw)
-
-pub type_in-requires : goal.type_in-requires
-unfolding ends_under
-type_in-requires c = search rules
 
 pub returns-then-type_in-ne0 : goal.returns-then-type_in-ne0
 unfolding ends_under
 returns-then-type_in-ne0 c = rw (sym c.is_grant.ensures ∙ not-false _ c.if-not-is_grant.false-raw, ← c.type_in.ensures, ne_eqb _ _ c.if-type_in-ne0.true)
 
-pub nocncl_of-requires : goal.nocncl_of-requires
-unfolding ends_under
-nocncl_of-requires c = search rules
-
 pub returns-then-not-nocncl_of : goal.returns-then-not-nocncl_of
 unfolding ends_under
 returns-then-not-nocncl_of c = rw (sym c.is_grant.ensures ∙ not-false _ c.if-not-is_grant.false-raw, ← c.type_in.ensures, eq-eqb _ _ c.if-type_in-ne0.false, sym c.nocncl_of.ensures ∙ not-true _ c.if-not-nocncl_of.true-raw, or-true)
-
-pub removes-requires : goal.removes-requires
-unfolding ends_under
-removes-requires c = search rules
 
 pub returns : goal.returns
 unfolding ends_under

@@ -11,21 +11,9 @@ pub loop-rest-init : goal.loop-rest-init
 unfolding initiators_by
 loop-rest-init c = (search rules, refl)
 
-pub first_page-page-requires : goal.first_page-page-requires
-unfolding initiators_by
-first_page-page-requires c = search rules
-
-pub ends_under-requires : goal.ends_under-requires
-unfolding initiators_by
-ends_under-requires c = search rules
-
 pub ended_under-next-requires : goal.ended_under-next-requires
 unfolding initiators_by
 ended_under-next-requires c = c.loop-rest.invariant.0
-
-pub after_page-later-requires : goal.after_page-later-requires
-unfolding initiators_by
-after_page-later-requires c = search rules
 
 pub loop-rest-smaller : goal.loop-rest-smaller
 unfolding initiators_by

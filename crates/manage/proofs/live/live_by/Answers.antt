@@ -1,21 +1,8 @@
 -- The page code picks what ends.
-use borrow.Author.Rules.{rules}
 use borrow.Author.Tests.{ne_eqb}
 use mathlib.Core.Path.{◌∙◌}
 use Rattle.manage.specs.EndState.{live_by}
 use Rattle.manage.proofs.live.live_by.Goals as goal
-
-pub page_code-code-requires : goal.page_code-code-requires
-unfolding live_by
-page_code-code-requires c = search rules
-
-pub left_by-requires : goal.left_by-requires
-unfolding live_by
-left_by-requires c = search rules
-
-pub left_by-requires-in-3 : goal.left_by-requires-in-3
-unfolding live_by
-left_by-requires-in-3 c = search rules
 
 pub returns-in-2 : goal.returns-in-2
 unfolding live_by

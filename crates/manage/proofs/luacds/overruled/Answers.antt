@@ -6,10 +6,6 @@ use Rattle.lists.specs.Lists.{any}
 use Rattle.manage.proofs.Marks.{read_more, read_next, read_end, overruled_from}
 use Rattle.manage.proofs.luacds.overruled.Goals as goal
 
-pub descriptor_at-d-requires : goal.descriptor_at-d-requires
-unfolding any
-descriptor_at-d-requires c = search rules
-
 pub overflow_add-j : goal.overflow_add-j
 unfolding any
 overflow_add-j c = omega arith

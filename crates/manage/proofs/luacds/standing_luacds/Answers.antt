@@ -7,14 +7,6 @@ use Rattle.manage.proofs.Marks.{read_more, mark_read, luacds_all, luacds_stands,
 use Rattle.manage.proofs.luacds.standing_luacds.Goals as goal
 use Rattle.manage.proofs.luacds.standing_luacds.Goals.{then-marks-k-eq1, else-marks-k-eq1}
 
-pub standing_marks-marks-requires : goal.standing_marks-marks-requires
-unfolding filled_with
-standing_marks-marks-requires c = search rules
-
-pub no_luacd-requires : goal.no_luacd-requires
-unfolding filled_with
-no_luacd-requires c = search rules
-
 pub loop-k-init : goal.loop-k-init
 unfolding filled_with
 loop-k-init c = (search rules, record { sofar = []; is = rw c.no_luacd.ensures; whole = luacds_all _ _; few = omega arith })
