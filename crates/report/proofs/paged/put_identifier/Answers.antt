@@ -1,33 +1,12 @@
 -- Four writers, one after the other; the identifier is written as it is kept.
 use mathlib.Core.Path.{ap, ◌∙◌}
 use native.Mathlib.Omega.{arith}
-use borrow.Author.Rules.{rules}
 use lib.ListN.{length}
 use Rattle.lists.proofs.Bytes.{bytes_length}
 use Rattle.wire.proofs.Writing.{then}
 use Rattle.paper.specs.Reports.{identifier_bytes}
 use Rattle.paper.proofs.Getters.{length_kept}
 use Rattle.report.proofs.paged.put_identifier.Goals as goal
-
-pub kept_id-bytes-requires : goal.kept_id-bytes-requires
-unfolding identifier_bytes
-kept_id-bytes-requires c = search rules
-
-pub put-b-requires : goal.put-b-requires
-unfolding identifier_bytes
-put-b-requires c = search rules
-
-pub type_byte-requires : goal.type_byte-requires
-unfolding identifier_bytes
-type_byte-requires c = search rules
-
-pub put-c-requires : goal.put-c-requires
-unfolding identifier_bytes
-put-c-requires c = search rules
-
-pub put_be16-d-requires : goal.put_be16-d-requires
-unfolding identifier_bytes
-put_be16-d-requires c = search rules
 
 pub put_bytes-requires : goal.put_bytes-requires
 unfolding identifier_bytes

@@ -1,22 +1,9 @@
 -- Three writers, one after the other.
 use native.Mathlib.Omega.{arith}
-use borrow.Author.Rules.{rules}
 use Rattle.lists.proofs.Bytes.{bytes_length}
 use Rattle.wire.proofs.Writing.{then}
 use Rattle.paper.specs.Reports.{token_bytes}
 use Rattle.report.proofs.paged.put_token.Goals as goal
-
-pub put_zeros-a-requires : goal.put_zeros-a-requires
-unfolding token_bytes
-put_zeros-a-requires c = search rules
-
-pub put_be64-b-requires : goal.put_be64-b-requires
-unfolding token_bytes
-put_be64-b-requires c = search rules
-
-pub default_lun-requires : goal.default_lun-requires
-unfolding token_bytes
-default_lun-requires c = search rules
 
 pub put_lun-requires : goal.put_lun-requires
 unfolding token_bytes
