@@ -2,64 +2,7 @@
 use mathlib.Core.Path.{sym}
 use Rattle.paper.specs.Orders.{read_out}
 use Rattle.coordinator.proofs.Supported.{unsupported}
-use borrow.Author.Rules.{rules}
 use Rattle.coordinator.proofs.reading.read_out.Goals as goal
-
-pub read_manage-requires : goal.read_manage-requires
-unfolding read_out
-read_manage-requires c = search rules
-
-pub be64-requires : goal.be64-requires
-unfolding read_out
-be64-requires c = search rules
-
-pub exactly-requires : goal.exactly-requires
-unfolding read_out
-exactly-requires c = search rules
-
-pub exactly-requires-in-2 : goal.exactly-requires-in-2
-unfolding read_out
-exactly-requires-in-2 c = search rules
-
-pub read_cancel-requires : goal.read_cancel-requires
-unfolding read_out
-read_cancel-requires c = search rules
-
-pub be64-requires-in-7 : goal.be64-requires-in-7
-unfolding read_out
-be64-requires-in-7 c = search rules
-
-pub exactly-requires-in-7 : goal.exactly-requires-in-7
-unfolding read_out
-exactly-requires-in-7 c = search rules
-
-pub be64-requires-in-8 : goal.be64-requires-in-8
-unfolding read_out
-be64-requires-in-8 c = search rules
-
-pub exactly-requires-in-8 : goal.exactly-requires-in-8
-unfolding read_out
-exactly-requires-in-8 c = search rules
-
-pub be64-requires-in-9 : goal.be64-requires-in-9
-unfolding read_out
-be64-requires-in-9 c = search rules
-
-pub be64-requires-in-9-2 : goal.be64-requires-in-9-2
-unfolding read_out
-be64-requires-in-9-2 c = search rules
-
-pub exactly-requires-in-9 : goal.exactly-requires-in-9
-unfolding read_out
-exactly-requires-in-9 c = search rules
-
-pub be64-requires-in-10 : goal.be64-requires-in-10
-unfolding read_out
-be64-requires-in-10 c = search rules
-
-pub exactly-requires-in-10 : goal.exactly-requires-in-10
-unfolding read_out
-exactly-requires-in-10 c = search rules
 
 pub returns-in-0 : goal.returns-in-0
 unfolding read_out

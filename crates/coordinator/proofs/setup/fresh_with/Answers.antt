@@ -1,13 +1,8 @@
 -- The two tables that are set are those of the setup, and the others are empty.
 use mathlib.Core.Path.{◌∙◌}
-use borrow.Author.Rules.{rules}
 use Rattle.paper.specs.Fresh.{fresh}
 use Rattle.coordinator.proofs.Setting.{filling}
 use Rattle.coordinator.proofs.setup.fresh_with.Goals as goal
-
-pub fresh_coordinator-empty-requires : goal.fresh_coordinator-empty-requires
-unfolding fresh
-fresh_coordinator-empty-requires c = search rules
 
 pub initiators_of-requires : goal.initiators_of-requires
 unfolding fresh
@@ -15,17 +10,9 @@ initiators_of-requires c =
     let f = filling _ _ c.requires in
     (f.whole_ids, f.few_ids)
 
-pub with_initiators-listed-requires : goal.with_initiators-listed-requires
-unfolding fresh
-with_initiators-listed-requires c = search rules
-
 pub units_of-requires : goal.units_of-requires
 unfolding fresh
 units_of-requires c = (filling _ _ c.requires).few_luns
-
-pub with_units-requires : goal.with_units-requires
-unfolding fresh
-with_units-requires c = search rules
 
 pub returns : goal.returns
 unfolding fresh
