@@ -6,16 +6,7 @@ use Rattle.paper.specs.Outcomes.{decide_command}
 use lib.ListN.{length}
 use mathlib.Core.Path.{◌∙◌}
 use native.Mathlib.Omega.{arith}
-use borrow.Author.Rules.{rules}
 use Rattle.journal.proofs.answering.answer_command.Goals as goal
-
-pub fill-requires : goal.fill-requires
-unfolding step_said
-fill-requires c = search rules
-
-pub command-outcome-requires : goal.command-outcome-requires
-unfolding step_said
-command-outcome-requires c = search rules
 
 pub lent_line-size-requires : goal.lent_line-size-requires
 unfolding step_said

@@ -6,12 +6,7 @@ use native.Mathlib.Omega.{arith}
 use mathlib.Core.Path.{refl, ◌∙◌}
 use mathlib.Core.List.{◌++◌}
 use Rattle.journal.specs.Texts.{line_text, decimal_text}
-use borrow.Author.Rules.{rules}
 use Rattle.journal.proofs.answering.answer_fault.Goals as goal
-
-pub put_line-at-requires : goal.put_line-at-requires
-unfolding step_line
-put_line-at-requires c = search rules
 
 pub put_expected-told-requires : goal.put_expected-told-requires
 unfolding step_line

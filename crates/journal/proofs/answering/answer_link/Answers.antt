@@ -5,16 +5,7 @@ use Rattle.journal.specs.Statements.{link_word}
 use Rattle.paper.specs.declared.outcomes.Outcome.{Outcome}
 use mathlib.Core.Path.{ap, ◌∙◌}
 use mathlib.Core.List.{◌++◌}
-use borrow.Author.Rules.{rules}
 use Rattle.journal.proofs.answering.answer_link.Goals as goal
-
-pub link_event-outcome-requires : goal.link_event-outcome-requires
-unfolding step_said
-link_event-outcome-requires c = search rules
-
-pub plain_line-size-requires : goal.plain_line-size-requires
-unfolding step_said
-plain_line-size-requires c = search rules
 
 pub returns : goal.returns
 unfolding step_said

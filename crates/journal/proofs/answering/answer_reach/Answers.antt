@@ -6,16 +6,7 @@ use Rattle.paper.specs.Outcomes.{decide_reach}
 use lib.ListN.{length}
 use mathlib.Core.Path.{◌∙◌}
 use native.Mathlib.Omega.{arith}
-use borrow.Author.Rules.{rules}
 use Rattle.journal.proofs.answering.answer_reach.Goals as goal
-
-pub fill-requires : goal.fill-requires
-unfolding step_said
-fill-requires c = search rules
-
-pub reach-outcome-requires : goal.reach-outcome-requires
-unfolding step_said
-reach-outcome-requires c = search rules
 
 pub lent_line-size-requires : goal.lent_line-size-requires
 unfolding step_said

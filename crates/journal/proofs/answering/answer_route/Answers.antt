@@ -5,16 +5,7 @@ use Rattle.journal.specs.Statements.{route_word}
 use Rattle.paper.specs.declared.outcomes.Opening.{Opening}
 use mathlib.Core.Path.{ap, ◌∙◌, refl}
 use mathlib.Core.List.{◌++◌}
-use borrow.Author.Rules.{rules}
 use Rattle.journal.proofs.answering.answer_route.Goals as goal
-
-pub route-opening-requires : goal.route-opening-requires
-unfolding step_said
-route-opening-requires c = search rules
-
-pub route_line-size-requires : goal.route_line-size-requires
-unfolding step_said
-route_line-size-requires c = search rules
 
 pub returns : goal.returns
 unfolding step_said

@@ -5,16 +5,7 @@ use Rattle.journal.specs.Statements.{setup_word}
 use Rattle.paper.specs.declared.outcomes.Started.{Started}
 use mathlib.Core.Path.{ap, ◌∙◌}
 use mathlib.Core.List.{◌++◌}
-use borrow.Author.Rules.{rules}
 use Rattle.journal.proofs.answering.answer_setup.Goals as goal
-
-pub setup-begun-requires : goal.setup-begun-requires
-unfolding step_said
-setup-begun-requires c = search rules
-
-pub plain_line-size-requires : goal.plain_line-size-requires
-unfolding step_said
-plain_line-size-requires c = search rules
 
 pub returns : goal.returns
 unfolding step_said

@@ -3,12 +3,7 @@ use mathlib.Core.Path.{ap, sym, ◌∙◌}
 use borrow.Author.Tests.{not-true, not-false}
 use lib.Dec.{leb}
 use Rattle.journal.specs.Kinds.{is_list}
-use borrow.Author.Rules.{rules}
 use Rattle.journal.proofs.reading.is_list.Goals as goal
-
-pub is_bytes-requires : goal.is_bytes-requires
-unfolding is_list
-is_bytes-requires c = search rules
 
 pub returns-then-not-is_bytes : goal.returns-then-not-is_bytes
 unfolding is_list

@@ -1,23 +1,10 @@
 -- The word is a number, and the only one.
 use mathlib.Core.Path.{◌∙◌}
-use borrow.Author.Rules.{rules}
 use Rattle.journal.specs.Kinds.{is_number}
 use Rattle.journal.specs.Statements.{link, read_link}
 use Rattle.journal.specs.declared.statement.Kind.TheVariants.{Number}
 use Rattle.journal.proofs.Exits.{one_read}
 use Rattle.journal.proofs.reading.read_link.Goals as goal
-
-pub word_of-requires : goal.word_of-requires
-unfolding read_link
-word_of-requires c = search rules
-
-pub number-i-requires : goal.number-i-requires
-unfolding read_link
-number-i-requires c = search rules
-
-pub one_word-requires : goal.one_word-requires
-unfolding read_link
-one_word-requires c = search rules
 
 pub returns : goal.returns
 unfolding read_link

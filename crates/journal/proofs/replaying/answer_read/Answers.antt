@@ -1,24 +1,11 @@
 -- Each case is answered by its own function, as the definition has it.
 use mathlib.Core.Path.{refl, sym}
 use native.Mathlib.Omega.{arith}
-use borrow.Author.Rules.{rules}
 use lib.ListN.{length-take}
 use lib.Seq.{length-take-le}
 use Rattle.journal.specs.Replay.{step_line}
 use Rattle.journal.proofs.LentSlice.{command_lends, reach_lends}
 use Rattle.journal.proofs.replaying.answer_read.Goals as goal
-
-pub answer_too_long-requires : goal.answer_too_long-requires
-unfolding step_line
-answer_too_long-requires c = search rules
-
-pub answer_fault-requires : goal.answer_fault-requires
-unfolding step_line
-answer_fault-requires c = search rules
-
-pub answer_setup-requires : goal.answer_setup-requires
-unfolding step_line
-answer_setup-requires c = search rules
 
 pub slice_bounds-lent-end : goal.slice_bounds-lent-end
 unfolding step_line
@@ -31,14 +18,6 @@ slice_bounds-lent-end-in-Command c = sym (length-take-le _ _ (omega (arith, comm
 pub answer_command-requires : goal.answer_command-requires
 unfolding step_line
 answer_command-requires c = (omega (arith, length-take c.in-Command.n c.args.reply.now, command_lends c.args.first.now c.args.second.now c.in-Command.is c.requires.0), c.requires.2)
-
-pub answer_link-requires : goal.answer_link-requires
-unfolding step_line
-answer_link-requires c = search rules
-
-pub answer_route-requires : goal.answer_route-requires
-unfolding step_line
-answer_route-requires c = search rules
 
 pub slice_bounds-lent-end-in-Reach : goal.slice_bounds-lent-end-in-Reach
 unfolding step_line
