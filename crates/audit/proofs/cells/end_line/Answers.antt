@@ -1,12 +1,7 @@
 -- A ground that ended has its last line, and the others stand at the last line of the journal.
 use borrow.Author.Tests.{eq-eqb, ne_eqb}
 use Rattle.audit.specs.Cells.{end_line}
-use borrow.Author.Rules.{rules}
 use Rattle.audit.proofs.cells.end_line.Goals as goal
-
-pub be64-requires : goal.be64-requires
-unfolding end_line
-be64-requires c = search rules
 
 pub returns-then-e-eq24 : goal.returns-then-e-eq24
 unfolding end_line

@@ -1,20 +1,11 @@
 -- A ground is shown if its lines and those asked for meet.
 use borrow.Author.Tests.{le-leb, lt-leb}
 use Rattle.audit.specs.Cells.{is_shown}
-use borrow.Author.Rules.{rules}
 use Rattle.audit.proofs.cells.is_shown.Goals as goal
-
-pub be64-requires : goal.be64-requires
-unfolding is_shown
-be64-requires c = search rules
 
 pub returns-then-a-be64 : goal.returns-then-a-be64
 unfolding is_shown
 returns-then-a-be64 c = rw (← c.be64.ensures, lt-leb _ _ c.if-a-be64.true)
-
-pub end_line-requires : goal.end_line-requires
-unfolding is_shown
-end_line-requires c = search rules
 
 pub returns : goal.returns
 unfolding is_shown

@@ -1,56 +1,7 @@
 -- Each column has its own cell.
 use borrow.Author.Tests.{ne_eqb}
 use Rattle.audit.specs.Cells.{cell_text}
-use borrow.Author.Rules.{rules}
 use Rattle.audit.proofs.cells.put_cell.Goals as goal
-
-pub byte-requires : goal.byte-requires
-unfolding cell_text
-byte-requires c = search rules
-
-pub put_decimal-requires : goal.put_decimal-requires
-unfolding cell_text
-put_decimal-requires c = search rules
-
-pub byte-requires-in-1 : goal.byte-requires-in-1
-unfolding cell_text
-byte-requires-in-1 c = search rules
-
-pub put_pair-requires : goal.put_pair-requires
-unfolding cell_text
-put_pair-requires c = search rules
-
-pub byte-requires-in-2 : goal.byte-requires-in-2
-unfolding cell_text
-byte-requires-in-2 c = search rules
-
-pub put_ground-requires : goal.put_ground-requires
-unfolding cell_text
-put_ground-requires c = search rules
-
-pub from_line-requires : goal.from_line-requires
-unfolding cell_text
-from_line-requires c = search rules
-
-pub put_decimal-requires-in-3 : goal.put_decimal-requires-in-3
-unfolding cell_text
-put_decimal-requires-in-3 c = search rules
-
-pub to_line-requires : goal.to_line-requires
-unfolding cell_text
-to_line-requires c = search rules
-
-pub put_decimal-requires-in-4 : goal.put_decimal-requires-in-4
-unfolding cell_text
-put_decimal-requires-in-4 c = search rules
-
-pub put_deed-requires : goal.put_deed-requires
-unfolding cell_text
-put_deed-requires c = search rules
-
-pub put_ended-requires : goal.put_ended-requires
-unfolding cell_text
-put_ended-requires c = search rules
 
 pub returns-in-0 : goal.returns-in-0
 unfolding cell_text

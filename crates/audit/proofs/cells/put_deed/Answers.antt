@@ -4,24 +4,7 @@ use Rattle.wire.proofs.Writing.{then}
 use Rattle.audit.specs.Cells.{deed_text}
 use Rattle.audit.proofs.Writers.{ends_within}
 use Rattle.audit.proofs.CellSizes.{what_most, sender_most}
-use borrow.Author.Rules.{rules}
 use Rattle.audit.proofs.cells.put_deed.Goals as goal
-
-pub byte-what-requires : goal.byte-what-requires
-unfolding deed_text
-byte-what-requires c = search rules
-
-pub byte-by-requires : goal.byte-by-requires
-unfolding deed_text
-byte-by-requires c = search rules
-
-pub byte-own-requires : goal.byte-own-requires
-unfolding deed_text
-byte-own-requires c = search rules
-
-pub put_what-named-requires : goal.put_what-named-requires
-unfolding deed_text
-put_what-named-requires c = search rules
 
 pub put_sender-sent-requires : goal.put_sender-sent-requires
 unfolding deed_text
@@ -30,10 +13,6 @@ put_sender-sent-requires c = omega (arith, ends_within (what_most _) c.put_what-
 pub put_bytes-told-requires : goal.put_bytes-told-requires
 unfolding deed_text
 put_bytes-told-requires c = omega (arith, ends_within (what_most _) c.put_what-named.ensures, ends_within (sender_most _ _ _) c.put_sender-sent.ensures)
-
-pub be64-requires : goal.be64-requires
-unfolding deed_text
-be64-requires c = search rules
 
 pub put_decimal-requires : goal.put_decimal-requires
 unfolding deed_text

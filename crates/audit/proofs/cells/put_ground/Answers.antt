@@ -1,28 +1,7 @@
 -- Each letter has its own words.
 use borrow.Author.Tests.{ne_eqb}
 use Rattle.audit.specs.Cells.{ground_text}
-use borrow.Author.Rules.{rules}
 use Rattle.audit.proofs.cells.put_ground.Goals as goal
-
-pub put_bytes-requires : goal.put_bytes-requires
-unfolding ground_text
-put_bytes-requires c = search rules
-
-pub put_bytes-requires-in-65 : goal.put_bytes-requires-in-65
-unfolding ground_text
-put_bytes-requires-in-65 c = search rules
-
-pub put_bytes-requires-in-87 : goal.put_bytes-requires-in-87
-unfolding ground_text
-put_bytes-requires-in-87 c = search rules
-
-pub put_bytes-requires-in-88 : goal.put_bytes-requires-in-88
-unfolding ground_text
-put_bytes-requires-in-88 c = search rules
-
-pub put_bytes-requires-in_default : goal.put_bytes-requires-in_default
-unfolding ground_text
-put_bytes-requires-in_default c = search rules
 
 pub returns-in-84 : goal.returns-in-84
 unfolding ground_text

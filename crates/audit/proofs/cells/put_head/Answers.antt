@@ -1,36 +1,7 @@
 -- Each column has its own heading.
 use borrow.Author.Tests.{ne_eqb}
 use Rattle.audit.specs.Cells.{head_text}
-use borrow.Author.Rules.{rules}
 use Rattle.audit.proofs.cells.put_head.Goals as goal
-
-pub put_bytes-requires : goal.put_bytes-requires
-unfolding head_text
-put_bytes-requires c = search rules
-
-pub put_bytes-requires-in-1 : goal.put_bytes-requires-in-1
-unfolding head_text
-put_bytes-requires-in-1 c = search rules
-
-pub put_bytes-requires-in-2 : goal.put_bytes-requires-in-2
-unfolding head_text
-put_bytes-requires-in-2 c = search rules
-
-pub put_bytes-requires-in-3 : goal.put_bytes-requires-in-3
-unfolding head_text
-put_bytes-requires-in-3 c = search rules
-
-pub put_bytes-requires-in-4 : goal.put_bytes-requires-in-4
-unfolding head_text
-put_bytes-requires-in-4 c = search rules
-
-pub put_bytes-requires-in-5 : goal.put_bytes-requires-in-5
-unfolding head_text
-put_bytes-requires-in-5 c = search rules
-
-pub put_bytes-requires-in_default : goal.put_bytes-requires-in_default
-unfolding head_text
-put_bytes-requires-in_default c = search rules
 
 pub returns-in-0 : goal.returns-in-0
 unfolding head_text

@@ -2,7 +2,6 @@
 use borrow.Author.Tests.{lt-ltb, le-ltb, eq-eqb, ne_eqb}
 use Rattle.wire.proofs.Writing.{wrote_none, then}
 use Rattle.audit.specs.Cells.{sender_text}
-use borrow.Author.Rules.{rules}
 use Rattle.audit.proofs.cells.put_sender.Goals as goal
 
 pub returns-then-what-ge254 : goal.returns-then-what-ge254
@@ -12,14 +11,6 @@ returns-then-what-ge254 c = rw (le-ltb _ 0xFE c.if-what-ge254.true) (wrote_none 
 pub returns-then-by-own : goal.returns-then-by-own
 unfolding sender_text
 returns-then-by-own c = rw (lt-ltb _ 0xFE c.if-what-ge254.false, eq-eqb _ _ c.if-by-own.true) (wrote_none _ _ _)
-
-pub put_bytes-told-requires : goal.put_bytes-told-requires
-unfolding sender_text
-put_bytes-told-requires c = search rules
-
-pub put_decimal-requires : goal.put_decimal-requires
-unfolding sender_text
-put_decimal-requires c = search rules
 
 pub returns : goal.returns
 unfolding sender_text

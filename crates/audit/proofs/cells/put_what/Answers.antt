@@ -2,48 +2,7 @@
 use borrow.Author.Tests.{ne_eqb}
 use Rattle.wire.proofs.Writing.{wrote_none}
 use Rattle.audit.specs.Cells.{what_text}
-use borrow.Author.Rules.{rules}
 use Rattle.audit.proofs.cells.put_what.Goals as goal
-
-pub put_bytes-requires : goal.put_bytes-requires
-unfolding what_text
-put_bytes-requires c = search rules
-
-pub put_bytes-requires-in-1 : goal.put_bytes-requires-in-1
-unfolding what_text
-put_bytes-requires-in-1 c = search rules
-
-pub put_bytes-requires-in-2 : goal.put_bytes-requires-in-2
-unfolding what_text
-put_bytes-requires-in-2 c = search rules
-
-pub put_bytes-requires-in-3 : goal.put_bytes-requires-in-3
-unfolding what_text
-put_bytes-requires-in-3 c = search rules
-
-pub put_bytes-requires-in-7 : goal.put_bytes-requires-in-7
-unfolding what_text
-put_bytes-requires-in-7 c = search rules
-
-pub put_bytes-requires-in-8 : goal.put_bytes-requires-in-8
-unfolding what_text
-put_bytes-requires-in-8 c = search rules
-
-pub put_bytes-requires-in-9 : goal.put_bytes-requires-in-9
-unfolding what_text
-put_bytes-requires-in-9 c = search rules
-
-pub put_bytes-requires-in-10 : goal.put_bytes-requires-in-10
-unfolding what_text
-put_bytes-requires-in-10 c = search rules
-
-pub put_bytes-requires-in-254 : goal.put_bytes-requires-in-254
-unfolding what_text
-put_bytes-requires-in-254 c = search rules
-
-pub put_bytes-requires-in-255 : goal.put_bytes-requires-in-255
-unfolding what_text
-put_bytes-requires-in-255 c = search rules
 
 pub returns-in-0 : goal.returns-in-0
 unfolding what_text

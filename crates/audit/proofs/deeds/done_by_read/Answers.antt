@@ -1,45 +1,8 @@
 -- Each case is the definition's own clause.
 use mathlib.Core.Path.{ap, ◌∙◌}
 use Prim.Native.Nat.{ℕ, ◌%◌}
-use borrow.Author.Rules.{rules}
 use Rattle.audit.specs.Deeds.{did, done_by}
 use Rattle.audit.proofs.deeds.done_by_read.Goals as goal
-
-pub nothing-requires : goal.nothing-requires
-unfolding done_by
-nothing-requires c = search rules
-
-pub nothing-requires-in-TooLong : goal.nothing-requires-in-TooLong
-unfolding done_by
-nothing-requires-in-TooLong c = search rules
-
-pub nothing-requires-in-Expected : goal.nothing-requires-in-Expected
-unfolding done_by
-nothing-requires-in-Expected c = search rules
-
-pub did-requires : goal.did-requires
-unfolding done_by
-did-requires c = search rules
-
-pub byte-requires : goal.byte-requires
-unfolding done_by
-byte-requires c = search rules
-
-pub did-requires-in-Command : goal.did-requires-in-Command
-unfolding done_by
-did-requires-in-Command c = search rules
-
-pub did-requires-in-Link : goal.did-requires-in-Link
-unfolding done_by
-did-requires-in-Link c = search rules
-
-pub nothing-requires-in-Route : goal.nothing-requires-in-Route
-unfolding done_by
-nothing-requires-in-Route c = search rules
-
-pub nothing-requires-in-Reach : goal.nothing-requires-in-Reach
-unfolding done_by
-nothing-requires-in-Reach c = search rules
 
 pub returns-in-Skipped : goal.returns-in-Skipped
 unfolding done_by

@@ -1,6 +1,5 @@
 use mathlib.Core.Path.{ap}
 use native.Mathlib.Omega.{arith}
-use borrow.Author.Rules.{rules}
 use Rattle.audit.specs.Ledger.{deed_bytes, runs_of, ends_by, ends_after}
 use Rattle.audit.proofs.Runs.{run_at, run_long, cut_is, cut_size, runs_next, runs_end}
 use Rattle.audit.proofs.Writers.{laid_start, laid_next, laid_end, wrote_as, ends_within}
@@ -14,10 +13,6 @@ loop-k-init c = laid_start _ _ _ _ _ _
 pub put_end-at-requires : goal.put_end-at-requires
 unfolding ends_after
 put_end-at-requires c = (cut_size 14 _ c.loop-k-test.true, omega (arith, c.loop-k.invariant.near))
-
-pub loop-k-smaller : goal.loop-k-smaller
-unfolding ends_after
-loop-k-smaller c = search rules
 
 pub loop-k-preserved : goal.loop-k-preserved
 unfolding ends_after

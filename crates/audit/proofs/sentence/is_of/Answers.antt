@@ -1,28 +1,15 @@
 -- The three tests of the definition, one after the other.
-use borrow.Author.Rules.{rules}
 use borrow.Author.Tests.{not-true, not-false, eq-eqb, ne_eqb}
 use Rattle.audit.specs.Sentence.{is_of}
 use Rattle.audit.proofs.sentence.is_of.Goals as goal
-
-pub is_shown-requires : goal.is_shown-requires
-unfolding is_of
-is_shown-requires c = search rules
 
 pub returns-then-not-is_shown : goal.returns-then-not-is_shown
 unfolding is_of
 returns-then-not-is_shown c = rw (← c.is_shown.ensures, not-true c.is_shown.result c.if-not-is_shown.true-raw)
 
-pub byte-requires : goal.byte-requires
-unfolding is_of
-byte-requires c = search rules
-
 pub returns-then-byte-i : goal.returns-then-byte-i
 unfolding is_of
 returns-then-byte-i c = rw (← c.is_shown.ensures, not-false c.is_shown.result c.if-not-is_shown.false-raw, ← c.byte.ensures, ne_eqb _ _ c.if-byte-i.true)
-
-pub byte-requires-2 : goal.byte-requires-2
-unfolding is_of
-byte-requires-2 c = search rules
 
 pub returns-then-byte-eq87 : goal.returns-then-byte-eq87
 unfolding is_of

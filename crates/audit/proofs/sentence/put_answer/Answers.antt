@@ -1,17 +1,12 @@
 -- Those that could open the unit, those that were pending, and the end of the line.
 use mathlib.Core.Path.{sym}
 use native.Mathlib.Omega.{arith}
-use borrow.Author.Rules.{rules}
 use lib.Seq.{length-take-le}
 use lib.ListN.{take}
 use Rattle.wire.proofs.Writing.{then}
 use Rattle.audit.specs.Sentence.{answer_text}
 use Rattle.audit.proofs.Sentences.{taken_most, could_most, wait_most}
 use Rattle.audit.proofs.sentence.put_answer.Goals as goal
-
-pub names_of-could-requires : goal.names_of-could-requires
-unfolding answer_text
-names_of-could-requires c = search rules
 
 pub slice_bounds-openers-end : goal.slice_bounds-openers-end
 unfolding answer_text
@@ -24,10 +19,6 @@ slice_bounds-put_could-end c = sym (length-take-le _ _ (omega (arith, c.names_of
 pub put_could-first-requires : goal.put_could-first-requires
 unfolding answer_text
 put_could-first-requires c = (omega arith, taken_most _ _ c.names_of-could.ensures.1)
-
-pub names_of-waited-requires : goal.names_of-waited-requires
-unfolding answer_text
-names_of-waited-requires c = search rules
 
 pub slice_bounds-pending-end : goal.slice_bounds-pending-end
 unfolding answer_text

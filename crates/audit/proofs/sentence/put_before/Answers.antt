@@ -1,5 +1,4 @@
 -- The two tests of the definition, one after the other.
-use borrow.Author.Rules.{rules}
 use borrow.Author.Tests.{eq-eqb, ne_eqb}
 use Rattle.wire.proofs.Writing.{wrote_none}
 use Rattle.audit.specs.Sentence.{before}
@@ -9,17 +8,9 @@ pub returns-then-k-eq0 : goal.returns-then-k-eq0
 unfolding before
 returns-then-k-eq0 c = rw (eq-eqb _ _ c.if-k-eq0.true) (wrote_none _ _ _)
 
-pub put_bytes-requires : goal.put_bytes-requires
-unfolding before
-put_bytes-requires c = search rules
-
 pub returns-then-k-n : goal.returns-then-k-n
 unfolding before
 returns-then-k-n c = rw (ne_eqb _ _ c.if-k-eq0.false, eq-eqb _ _ c.if-k-n.true) c.put_bytes.ensures
-
-pub put_bytes-requires-2 : goal.put_bytes-requires-2
-unfolding before
-put_bytes-requires-2 c = search rules
 
 pub returns : goal.returns
 unfolding before

@@ -1,15 +1,10 @@
 -- Four writers, one after the other.
 use native.Mathlib.Omega.{arith}
-use borrow.Author.Rules.{rules}
 use Rattle.journal.proofs.Told.{decimal_most}
 use Rattle.wire.proofs.Writing.{then}
 use Rattle.audit.specs.Sentence.{could_part}
 use Rattle.audit.proofs.Sentences.{openers_most}
 use Rattle.audit.proofs.sentence.put_could.Goals as goal
-
-pub put_openers-who-requires : goal.put_openers-who-requires
-unfolding could_part
-put_openers-who-requires c = search rules
 
 pub put_bytes-open-requires : goal.put_bytes-open-requires
 unfolding could_part

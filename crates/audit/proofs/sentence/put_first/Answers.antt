@@ -1,14 +1,9 @@
 -- The unit, the lines, and the end of the line.
 use native.Mathlib.Omega.{arith}
-use borrow.Author.Rules.{rules}
 use Rattle.wire.proofs.Writing.{then}
 use Rattle.audit.specs.Sentence.{first_text}
 use Rattle.audit.proofs.Sentences.{unit_most, lines_most}
 use Rattle.audit.proofs.sentence.put_first.Goals as goal
-
-pub put_unit-named-requires : goal.put_unit-named-requires
-unfolding first_text
-put_unit-named-requires c = search rules
 
 pub put_lines-told-requires : goal.put_lines-told-requires
 unfolding first_text

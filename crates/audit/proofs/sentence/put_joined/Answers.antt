@@ -1,5 +1,4 @@
 use native.Mathlib.Omega.{arith}
-use borrow.Author.Rules.{rules}
 use lib.ListN.{length}
 use Rattle.wire.proofs.Writing.{then}
 use Rattle.audit.specs.Sentence.{joined}
@@ -11,21 +10,9 @@ pub loop-k-init : goal.loop-k-init
 unfolding joined
 loop-k-init c = laid_start _ _ _ _ _ _
 
-pub byte-name-requires : goal.byte-name-requires
-unfolding joined
-byte-name-requires c = search rules
-
-pub put_before-next-requires : goal.put_before-next-requires
-unfolding joined
-put_before-next-requires c = search rules
-
 pub put_decimal-to-requires : goal.put_decimal-to-requires
 unfolding joined
 put_decimal-to-requires c = omega (arith, c.put_before-next.ensures.ended, before_most c.loop-k.k (length c.args.names.now), c.loop-k.invariant.near, c.requires.1)
-
-pub loop-k-smaller : goal.loop-k-smaller
-unfolding joined
-loop-k-smaller c = search rules
 
 pub loop-k-preserved : goal.loop-k-preserved
 unfolding joined

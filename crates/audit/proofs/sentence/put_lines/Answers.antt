@@ -1,18 +1,9 @@
 -- Five writers, one after the other.
 use native.Mathlib.Omega.{arith}
-use borrow.Author.Rules.{rules}
 use Rattle.journal.proofs.Told.{decimal_most}
 use Rattle.wire.proofs.Writing.{then}
 use Rattle.audit.specs.Sentence.{lines_part}
 use Rattle.audit.proofs.sentence.put_lines.Goals as goal
-
-pub put_bytes-lines-requires : goal.put_bytes-lines-requires
-unfolding lines_part
-put_bytes-lines-requires c = search rules
-
-pub put_decimal-from-requires : goal.put_decimal-from-requires
-unfolding lines_part
-put_decimal-from-requires c = search rules
 
 pub put_bytes-to-requires : goal.put_bytes-to-requires
 unfolding lines_part

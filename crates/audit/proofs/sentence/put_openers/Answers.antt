@@ -1,20 +1,11 @@
 -- Nobody, or those that are named.
-use borrow.Author.Rules.{rules}
 use borrow.Author.Tests.{eq-eqb, ne_eqb}
 use Rattle.audit.specs.Sentence.{openers}
 use Rattle.audit.proofs.sentence.put_openers.Goals as goal
 
-pub put_bytes-requires : goal.put_bytes-requires
-unfolding openers
-put_bytes-requires c = search rules
-
 pub returns-then-names-eq0 : goal.returns-then-names-eq0
 unfolding openers
 returns-then-names-eq0 c = rw (eq-eqb _ _ c.if-names-eq0.true) c.put_bytes.ensures
-
-pub put_named-requires : goal.put_named-requires
-unfolding openers
-put_named-requires c = search rules
 
 pub returns : goal.returns
 unfolding openers

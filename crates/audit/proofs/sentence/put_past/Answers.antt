@@ -1,6 +1,5 @@
 -- Past the last line the journal's end is told.
 use native.Mathlib.Omega.{arith}
-use borrow.Author.Rules.{rules}
 use borrow.Author.Tests.{lt-ltb, le-ltb}
 use Rattle.journal.proofs.Told.{decimal_most}
 use Rattle.wire.proofs.Writing.{then, wrote_none}
@@ -10,14 +9,6 @@ use Rattle.audit.proofs.sentence.put_past.Goals as goal
 pub returns-then-a : goal.returns-then-a
 unfolding past_text
 returns-then-a c = rw (le-ltb _ _ c.if-a.true) (wrote_none _ _ _)
-
-pub put_bytes-told-requires : goal.put_bytes-told-requires
-unfolding past_text
-put_bytes-told-requires c = search rules
-
-pub put_decimal-last-requires : goal.put_decimal-last-requires
-unfolding past_text
-put_decimal-last-requires c = search rules
 
 pub put-requires : goal.put-requires
 unfolding past_text

@@ -1,18 +1,9 @@
 -- Three writers, one after the other.
 use native.Mathlib.Omega.{arith}
-use borrow.Author.Rules.{rules}
 use Rattle.journal.proofs.Told.{decimal_most}
 use Rattle.wire.proofs.Writing.{then}
 use Rattle.audit.specs.Sentence.{unit_part}
 use Rattle.audit.proofs.sentence.put_unit.Goals as goal
-
-pub put_bytes-word-requires : goal.put_bytes-word-requires
-unfolding unit_part
-put_bytes-word-requires c = search rules
-
-pub put_decimal-number-requires : goal.put_decimal-number-requires
-unfolding unit_part
-put_decimal-number-requires c = search rules
 
 pub put_place-requires : goal.put_place-requires
 unfolding unit_part

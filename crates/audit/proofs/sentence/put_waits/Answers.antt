@@ -12,14 +12,6 @@ pub returns-then-names-eq0 : goal.returns-then-names-eq0
 unfolding wait_part
 returns-then-names-eq0 c = rw (eq-eqb _ _ c.if-names-eq0.true) (wrote_none _ _ _)
 
-pub put-space-requires : goal.put-space-requires
-unfolding wait_part
-put-space-requires c = search rules
-
-pub put_named-who-requires : goal.put_named-who-requires
-unfolding wait_part
-put_named-who-requires c = search rules
-
 pub put_pending-requires : goal.put_pending-requires
 unfolding wait_part
 put_pending-requires c = omega (arith, c.put-space.ensures.ended, ends_within (named_most _ (search rules)) c.put_named-who.ensures)

@@ -13,10 +13,6 @@ use Rattle.audit.proofs.table.put_fill.Goals as goal
 abbrev blanks : ℕ → List ℕ
 blanks n = replicate n 0x20
 
-pub put-requires : goal.put-requires
-unfolding fill_text
-put-requires c = search rules
-
 pub returns-then-tsv : goal.returns-then-tsv
 unfolding fill_text
 returns-then-tsv c = rw c.if-tsv.true c.put.ensures
@@ -28,10 +24,6 @@ loop-k-init c = (c.if-tsv.false, refl, search rules, omega arith, omega arith, r
 pub put-to-requires : goal.put-to-requires
 unfolding fill_text
 put-to-requires c = omega (arith, c.loop-k.invariant.2, c.loop-k.invariant.4)
-
-pub loop-k-smaller : goal.loop-k-smaller
-unfolding fill_text
-loop-k-smaller c = search rules
 
 pub loop-k-preserved : goal.loop-k-preserved
 unfolding fill_text

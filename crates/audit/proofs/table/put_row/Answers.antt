@@ -20,17 +20,9 @@ pub overflow_sub-end : goal.overflow_sub-end
 unfolding row_text
 overflow_sub-end c = omega (arith, c.put_line_cell-end.ensures.ended)
 
-pub byte-requires : goal.byte-requires
-unfolding row_text
-byte-requires c = search rules
-
 pub put_fill-at-requires : goal.put_fill-at-requires
 unfolding row_text
 put_fill-at-requires c = omega (arith, c.loop-k.invariant.1.near, ends_within (line_cell_most _ _ _) c.put_line_cell-end.ensures)
-
-pub loop-k-smaller : goal.loop-k-smaller
-unfolding row_text
-loop-k-smaller c = search rules
 
 pub loop-k-preserved : goal.loop-k-preserved
 unfolding row_text

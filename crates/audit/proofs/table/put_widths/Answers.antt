@@ -9,7 +9,6 @@ use Rattle.audit.specs.declared.cells.Asked.{Asked}
 use Rattle.audit.proofs.Writers.{laid_start, laid_next, laid_end, below_next, below_end, wrote_as, ends_within}
 use Rattle.audit.proofs.CellSizes.{head_most}
 use Rattle.audit.proofs.Columns.{column_width_lem}
-use borrow.Author.Rules.{rules}
 use Rattle.audit.proofs.table.put_widths.Goals as goal
 
 abbrev width_byte : Asked → List ℕ → List ℕ → ℕ → List ℕ
@@ -19,29 +18,13 @@ pub loop-k-init : goal.loop-k-init
 unfolding column_widths gather count
 loop-k-init c = (refl, laid_start _ _ _ _ _ _)
 
-pub put_head-head-requires : goal.put_head-head-requires
-unfolding column_widths gather count
-put_head-head-requires c = search rules
-
 pub overflow_cast-head : goal.overflow_cast-head
 unfolding column_widths gather count
 overflow_cast-head c = omega (arith, ends_within (head_most _) c.put_head-head.ensures)
 
-pub widen-first-requires : goal.widen-first-requires
-unfolding column_widths gather count
-widen-first-requires c = search rules
-
-pub widen-wide-requires : goal.widen-wide-requires
-unfolding column_widths gather count
-widen-wide-requires c = search rules
-
 pub put-at-requires : goal.put-at-requires
 unfolding column_widths gather count
 put-at-requires c = omega (arith, c.loop-k.invariant.1.near, c.loop-k-test.true)
-
-pub loop-k-smaller : goal.loop-k-smaller
-unfolding column_widths gather count
-loop-k-smaller c = search rules
 
 pub loop-k-preserved : goal.loop-k-preserved
 unfolding column_widths gather count

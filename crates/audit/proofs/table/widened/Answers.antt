@@ -5,20 +5,11 @@ use borrow.Author.Tests.{not-true, not-false}
 use Rattle.audit.specs.Cells.{widened}
 use Rattle.audit.proofs.Writers.{ends_within}
 use Rattle.audit.proofs.CellSizes.{cell_most}
-use borrow.Author.Rules.{rules}
 use Rattle.audit.proofs.table.widened.Goals as goal
-
-pub is_shown-requires : goal.is_shown-requires
-unfolding widened
-is_shown-requires c = search rules
 
 pub returns-then-not-is_shown : goal.returns-then-not-is_shown
 unfolding widened
 returns-then-not-is_shown c = rw (sym c.is_shown.ensures ∙ not-true _ c.if-not-is_shown.true-raw)
-
-pub put_cell-size-requires : goal.put_cell-size-requires
-unfolding widened
-put_cell-size-requires c = search rules
 
 pub overflow_cast-size : goal.overflow_cast-size
 unfolding widened
