@@ -1,25 +1,8 @@
 -- The writers one after the other.
 use native.Mathlib.Omega.{arith}
-use borrow.Author.Rules.{rules}
 use Rattle.wire.proofs.Writing.{then}
 use Rattle.acl.specs.State.{luacd_text}
 use Rattle.acl.proofs.granted.put_luacd.Goals as goal
-
-pub put_between-start-requires : goal.put_between-start-requires
-unfolding luacd_text
-put_between-start-requires c = search rules
-
-pub put_lun-placed-requires : goal.put_lun-placed-requires
-unfolding luacd_text
-put_lun-placed-requires c = search rules
-
-pub put-space-requires : goal.put-space-requires
-unfolding luacd_text
-put-space-requires c = search rules
-
-pub put_unit-requires : goal.put_unit-requires
-unfolding luacd_text
-put_unit-requires c = search rules
 
 pub returns : goal.returns
 unfolding luacd_text

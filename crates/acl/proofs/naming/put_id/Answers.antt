@@ -1,19 +1,10 @@
 -- The identifier as it is kept, in hex.
 use native.Mathlib.Omega.{arith}
-use borrow.Author.Rules.{rules}
 use Rattle.paper.specs.Identifiers.{kept}
 use Rattle.paper.proofs.Getters.{length_kept}
 use Rattle.journal.proofs.Told.{hex_length}
 use Rattle.acl.specs.State.{id_text}
 use Rattle.acl.proofs.naming.put_id.Goals as goal
-
-pub kept_id-bytes-requires : goal.kept_id-bytes-requires
-unfolding id_text
-kept_id-bytes-requires c = search rules
-
-pub put_hex-requires : goal.put_hex-requires
-unfolding id_text
-put_hex-requires c = search rules
 
 pub returns : goal.returns
 unfolding id_text

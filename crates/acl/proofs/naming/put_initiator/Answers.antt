@@ -1,17 +1,8 @@
 -- The name, and the number.
 use native.Mathlib.Omega.{arith}
-use borrow.Author.Rules.{rules}
 use Rattle.wire.proofs.Writing.{then}
 use Rattle.acl.specs.State.{initiator_text}
 use Rattle.acl.proofs.naming.put_initiator.Goals as goal
-
-pub put_bytes-next-requires : goal.put_bytes-next-requires
-unfolding initiator_text
-put_bytes-next-requires c = search rules
-
-pub put_decimal-requires : goal.put_decimal-requires
-unfolding initiator_text
-put_decimal-requires c = search rules
 
 pub returns : goal.returns
 unfolding initiator_text

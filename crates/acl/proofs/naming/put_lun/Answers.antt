@@ -1,17 +1,8 @@
 -- The name, and two digits.
 use native.Mathlib.Omega.{arith}
-use borrow.Author.Rules.{rules}
 use Rattle.wire.proofs.Writing.{then}
 use Rattle.acl.specs.State.{lun_text}
 use Rattle.acl.proofs.naming.put_lun.Goals as goal
-
-pub put_bytes-next-requires : goal.put_bytes-next-requires
-unfolding lun_text
-put_bytes-next-requires c = search rules
-
-pub put_pair-requires : goal.put_pair-requires
-unfolding lun_text
-put_pair-requires c = search rules
 
 pub returns : goal.returns
 unfolding lun_text

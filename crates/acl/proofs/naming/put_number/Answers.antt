@@ -8,14 +8,6 @@ use Rattle.acl.specs.State.{number_text}
 use Rattle.acl.proofs.Named.{all_written}
 use Rattle.acl.proofs.naming.put_number.Goals as goal
 
-pub put_be64-requires : goal.put_be64-requires
-unfolding number_text
-put_be64-requires c = search rules
-
-pub put_hex-requires : goal.put_hex-requires
-unfolding number_text
-put_hex-requires c = search rules
-
 pub returns : goal.returns
 unfolding number_text
 returns c =

@@ -1,14 +1,9 @@
 -- The first line, and the five parts.
 use native.Mathlib.Omega.{arith}
-use borrow.Author.Rules.{rules}
 use Rattle.wire.proofs.Writing.{then}
 use Rattle.report.proofs.PageSizes.{counts_of}
 use Rattle.acl.specs.State.{acl_text}
 use Rattle.acl.proofs.telling.put_standing.Goals as goal
-
-pub put_switch-first-requires : goal.put_switch-first-requires
-unfolding acl_text
-put_switch-first-requires c = search rules
 
 pub put_initiators-second-requires : goal.put_initiators-second-requires
 unfolding acl_text

@@ -1,14 +1,9 @@
 -- A state that does not stand is passed over.
 use mathlib.Core.Path.{sym, ◌∙◌}
-use borrow.Author.Rules.{rules}
 use borrow.Author.Tests.{not-true, not-false}
 use Rattle.wire.proofs.Writing.{wrote_none}
 use Rattle.acl.specs.State.{state_text}
 use Rattle.acl.proofs.telling.put_state.Goals as goal
-
-pub standing-requires : goal.standing-requires
-unfolding state_text
-standing-requires c = search rules
 
 pub returns-then-not-standing : goal.returns-then-not-standing
 unfolding state_text

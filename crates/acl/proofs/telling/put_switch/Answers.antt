@@ -1,30 +1,13 @@
 -- On, or off.
 use native.Mathlib.Omega.{arith}
-use borrow.Author.Rules.{rules}
 use Rattle.wire.proofs.Writing.{then}
 use Rattle.acl.specs.State.{switch_text}
 use Rattle.acl.proofs.telling.put_switch.Goals as goal
-
-pub put_bytes-a-requires : goal.put_bytes-a-requires
-unfolding switch_text
-put_bytes-a-requires c = search rules
-
-pub put-requires : goal.put-requires
-unfolding switch_text
-put-requires c = search rules
 
 pub returns-then-on : goal.returns-then-on
 unfolding switch_text
 returns-then-on c =
     record { wrote = rw c.if-on.true (then c.put_bytes-a.ensures c.put.ensures); fits = omega (arith, c.put_bytes-a.ensures.ended, c.put.ensures.ended) }
-
-pub put_bytes-b-requires : goal.put_bytes-b-requires
-unfolding switch_text
-put_bytes-b-requires c = search rules
-
-pub put-requires-2 : goal.put-requires-2
-unfolding switch_text
-put-requires-2 c = search rules
 
 pub returns : goal.returns
 unfolding switch_text

@@ -1,17 +1,8 @@
 -- The head, and the lines.
 use native.Mathlib.Omega.{arith}
-use borrow.Author.Rules.{rules}
 use Rattle.wire.proofs.Writing.{then}
 use Rattle.acl.specs.State.{units_text}
 use Rattle.acl.proofs.units.put_units.Goals as goal
-
-pub put_head-next-requires : goal.put_head-next-requires
-unfolding units_text
-put_head-next-requires c = search rules
-
-pub put_lines-requires : goal.put_lines-requires
-unfolding units_text
-put_lines-requires c = search rules
 
 pub returns : goal.returns
 unfolding units_text
