@@ -1,4 +1,8 @@
 // Where a run writes what it tells, and what failed of it.
+ghost use Rattle.std.specs.Prelude.{◌≡◌, true, false, is_ok, OnOk, IfErr, IsSome, IsSomeAnd};
+ghost use Rattle.std.specs.Io.KnownBytes.{Appends};
+ghost use Rattle.oberkosz.specs.declared.console.Failure.TheVariants.{Writing};
+
 use showing::out;
 use std::io;
 use std::io::Write;
@@ -19,7 +23,12 @@ pub struct Console<O: Write, E: Write> {
 }
 
 // Keeps what failed, to be told at the end; whether nothing did.
-pub fn note<O: Write, E: Write>(console: &mut Console<O, E>, outcome: io::Result<()>) -> bool {
+pub fn note<O: Write, E: Write>(console: &mut Console<O, E>, outcome: io::Result<()>) -> bool
+    ensures good { result ≡ is_ok outcome }
+    ensures same { OnOk outcome (console.new ≡ console.old) }
+    ensures failed { IfErr outcome (λ e. IsSomeAnd console.new.failure (λ f. f ≡ Writing e)) }
+    ensures streams { (console.new.output ≡ console.old.output) × (console.new.errors ≡ console.old.errors) }
+{
     match outcome {
         Ok(()) => true,
         Err(error) => {
@@ -30,13 +39,23 @@ pub fn note<O: Write, E: Write>(console: &mut Console<O, E>, outcome: io::Result
 }
 
 // Writes an answer; whether it was written.
-pub fn answer<O: Write, E: Write>(console: &mut Console<O, E>, text: &[u8]) -> bool {
+pub fn answer<O: Write, E: Write>(console: &mut Console<O, E>, text: &[u8]) -> bool
+    ensures written { result ≡ true → Appends (O.contents console.old.output) (O.contents console.new.output) text.now }
+    ensures failed { result ≡ false → IsSome console.new.failure }
+    ensures good { result ≡ true → console.new.failure ≡ console.old.failure }
+    ensures other { console.new.errors ≡ console.old.errors }
+{
     let outcome = out::write(&mut console.output, text);
     note(console, outcome)
 }
 
 // Writes what is wrong; whether it was written.
-pub fn warn<O: Write, E: Write>(console: &mut Console<O, E>, text: &[u8]) -> bool {
+pub fn warn<O: Write, E: Write>(console: &mut Console<O, E>, text: &[u8]) -> bool
+    ensures written { result ≡ true → Appends (E.contents console.old.errors) (E.contents console.new.errors) text.now }
+    ensures failed { result ≡ false → IsSome console.new.failure }
+    ensures good { result ≡ true → console.new.failure ≡ console.old.failure }
+    ensures other { console.new.output ≡ console.old.output }
+{
     let outcome = out::write(&mut console.errors, text);
     note(console, outcome)
 }
