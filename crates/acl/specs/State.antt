@@ -1,6 +1,6 @@
 -- "The state in words": the first line, and five parts.
 use Rattle.std.specs.Prelude.{ℕ, ◌+◌, ◌%◌, List, [], ◌∷◌, ◌++◌, Bool, cond, length, get_or, eqb, ltb}
-use Rattle.std.proofs.Math.Option.{Option, some, none}
+use Rattle.std.specs.Prelude.{Option, Some, None}
 use Rattle.lists.specs.Lists.{gather, below}
 use Rattle.lists.specs.Order.{sort}
 use Rattle.lists.specs.Bytes.{be_bytes}
@@ -124,8 +124,8 @@ proxy_before p q = then_by p.initiator q.initiator (ltb p.lun q.lun)
 
 -- the unit of a proxy LUN is its token's, which is there if the state stands
 abbrev pub unit_of : Option Token → ℕ
-unit_of none = 0
-unit_of (some t) = t.unit
+unit_of None = 0
+unit_of (Some t) = t.unit
 
 unfoldable pub holder_text : ℕ → ℕ → List ℕ
 holder_text i l = initiator_text i ++ (comma_text ++ lun_text l)

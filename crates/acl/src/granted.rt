@@ -1,16 +1,14 @@
 // The ACEs, AccessIDs first and by identifier, the LUACDs of one by LUN.
-ghost use Rattle.std.specs.Prelude.{◌≡◌, true, ◌+◌, ◌≤◌, length, take};
-ghost use Rattle.lists.specs.Lists.{all};
+ghost use Rattle.std.specs.Prelude.{◌≡◌, ◌+◌, ◌≤◌, take};
 ghost use Rattle.lists.specs.Order.{sort};
 ghost use Rattle.wire.specs.Write.{Wrote};
 ghost use Rattle.paper.specs.Tables.{content_of};
 ghost use Rattle.paper.specs.Reports.{luacd_before};
-ghost use Rattle.paper.specs.Standing.{few_luacds};
-ghost use Rattle.acl.specs.State.{kind_text, between_text, luacd_text, luacds_text, content_text, ace_line, ace_lines, aces_text};
+ghost use Rattle.acl.specs.State.{kind_text, between_text, luacd_text, luacds_text, content_text, ace_line, aces_text};
 
 use crate::naming;
 use paper::state::{Ace, Acl, Extent, IdType, Luacd};
-use report::{granted, identified, ordering};
+use report::{each, granted, identified};
 
 // What stands before the k-th LUACD of an ACE.
 fn put_between(text: &mut [u8], at: usize, limit: usize, k: usize) -> usize
@@ -19,15 +17,16 @@ fn put_between(text: &mut [u8], at: usize, limit: usize, k: usize) -> usize
     ensures fits { result ≤ at + 2 }
 {
     if k == 0 {
-        return at;
+        at
+    } else {
+        wire::put_bytes(text, at, limit, b", ")
     }
-    wire::put_bytes(text, at, limit, b", ")
 }
 
 // The k-th LUACD of an ACE, with what stands before it.
-fn put_luacd(text: &mut [u8], at: usize, limit: usize, k: usize, p: Luacd) -> usize
+fn put_luacd(text: &mut [u8], at: usize, limit: usize, k: usize, p: &Luacd) -> usize
     requires { at + 34 ≤ 4294967296 }
-    ensures wrote { Wrote limit at (luacd_text k p) text.old result text.new }
+    ensures wrote { Wrote limit at (luacd_text k p.now) text.old result text.new }
     ensures fits { result ≤ at + 34 }
 {
     let start = put_between(text, at, limit, k);
@@ -37,35 +36,27 @@ fn put_luacd(text: &mut [u8], at: usize, limit: usize, k: usize, p: Luacd) -> us
 }
 
 // The LUACDs of an ACE, by LUN.
-fn put_luacds(text: &mut [u8], at: usize, limit: usize, a: Ace) -> usize
-    requires { (a.count ≤ 16) × (at + 544 ≤ 4294967296) }
-    ensures wrote { Wrote limit at (luacds_text 0 (sort luacd_before (take a.count a.luacds))) text.old result text.new }
+fn put_luacds(text: &mut [u8], at: usize, limit: usize, a: &Ace) -> usize
+    requires { at + 544 ≤ 4294967296 }
+    ensures wrote { Wrote limit at (luacds_text 0 (sort luacd_before (take a.now.count a.now.luacds))) text.old result text.new }
     ensures fits { result ≤ at + 544 }
 {
-    let n = a.count;
-    let items = a.luacds;
-    let keys = granted::luacd_keys(a);
-    let mut order = [0; 16];
-    ordering::order_of(&keys, n, &mut order);
+    let sorted = granted::by_lun(a);
+    let used = sorted.in_use();
     let mut to = at;
-    let mut k = 0;
-    while k < n {
-        let from = order[k];
-        let p = items[from];
+    for (k, p) in used.iter().enumerate() {
         to = put_luacd(text, to, limit, k, p);
-        k += 1;
     }
     to
 }
 
 // A list, or everything.
-fn put_content(text: &mut [u8], at: usize, limit: usize, a: Ace) -> usize
-    requires { (a.count ≤ 16) × (at + 544 ≤ 4294967296) }
-    ensures wrote { Wrote limit at (content_text (content_of a)) text.old result text.new }
+fn put_content(text: &mut [u8], at: usize, limit: usize, a: &Ace) -> usize
+    requires { at + 544 ≤ 4294967296 }
+    ensures wrote { Wrote limit at (content_text (content_of a.now)) text.old result text.new }
     ensures fits { result ≤ at + 544 }
 {
-    let extent = a.extent;
-    match extent {
+    match a.extent {
         Extent::Listed => put_luacds(text, at, limit, a),
         Extent::Everything => wire::put_bytes(text, at, limit, b"everything"),
     }
@@ -84,49 +75,27 @@ fn put_kind(text: &mut [u8], at: usize, limit: usize, kind: IdType) -> usize
 }
 
 // The line of an ACE: its identifier, and what it holds.
-fn put_line(text: &mut [u8], at: usize, limit: usize, a: Ace) -> usize
-    requires { (a.count ≤ 16) × (at + 607 ≤ 4294967296) }
-    ensures wrote { Wrote limit at (ace_line a) text.old result text.new }
+fn put_line(text: &mut [u8], at: usize, limit: usize, a: &Ace) -> usize
+    requires { at + 607 ≤ 4294967296 }
+    ensures wrote { Wrote limit at (ace_line a.now) text.old result text.new }
     ensures fits { result ≤ at + 607 }
 {
-    let kind = a.kind;
-    let id = a.id;
-    let start = put_kind(text, at, limit, kind);
-    let named = naming::put_id(text, start, limit, kind, &id);
+    let start = put_kind(text, at, limit, a.kind);
+    let named = naming::put_id(text, start, limit, a.kind, &a.id);
     let colon = wire::put_bytes(text, named, limit, b": ");
     let content = put_content(text, colon, limit, a);
     wire::put(text, content, limit, b'\n')
 }
 
-// A line for each, AccessIDs first, and by identifier.
-fn put_lines(text: &mut [u8], at: usize, limit: usize, acl: Acl) -> usize
-    requires { (acl.count ≤ 32) × (all few_luacds (take acl.count acl.items) ≡ true) × (at + 19424 ≤ 4294967296) }
-    ensures wrote { Wrote limit at (ace_lines (take acl.count acl.items)) text.old result text.new }
-    ensures fits { result ≤ at + 19424 }
-    ensures counted { length (take acl.count acl.items) ≡ acl.count }
-{
-    let n = acl.count;
-    let items = acl.items;
-    let mut order = [0; 32];
-    identified::order_aces(acl, &mut order);
-    let mut to = at;
-    let mut k = 0;
-    while k < n {
-        let from = order[k];
-        let a = items[from];
-        to = put_line(text, to, limit, a);
-        k += 1;
-    }
-    to
-}
-
-// The part of the ACEs.
-pub fn put_aces(text: &mut [u8], at: usize, limit: usize, acl: Acl) -> usize
-    requires { (acl.count ≤ 32) × (all few_luacds (take acl.count acl.items) ≡ true) × (at + 19458 ≤ 4294967296) }
-    ensures wrote { Wrote limit at (aces_text (take acl.count acl.items)) text.old result text.new }
+// The part of the ACEs: a line for each, AccessIDs first, and by identifier.
+pub fn put_aces(text: &mut [u8], at: usize, limit: usize, acl: &Acl) -> usize
+    requires { at + 19458 ≤ 4294967296 }
+    ensures wrote { Wrote limit at (aces_text (take acl.now.count acl.now.items)) text.old result text.new }
     ensures fits { result ≤ at + 19458 }
 {
-    let n = acl.count;
-    let next = naming::put_head(text, at, limit, b"ACEs: ", n);
-    put_lines(text, next, limit, acl)
+    let next = naming::put_head(text, at, limit, b"ACEs: ", acl.in_use().len());
+    let sorted = identified::by_id(acl);
+    each::put_each(text, next, sorted.in_use(), |text, to, a| {
+        put_line(text, to, limit, a)
+    })
 }

@@ -23,30 +23,25 @@ fn put_switch(text: &mut [u8], at: usize, limit: usize, on: bool) -> usize
 }
 
 // "Then five parts": initiators, units, ACEs, tokens, proxy LUNs.
-fn put_standing(c: Coordinator, text: &mut [u8], limit: usize) -> usize
-    requires { standing c ≡ true }
-    ensures { Wrote limit 0 (acl_text c) text.old result text.new }
+fn put_standing(c: &Coordinator, text: &mut [u8], limit: usize) -> usize
+    requires { standing c.now ≡ true }
+    ensures { Wrote limit 0 (acl_text c.now) text.old result text.new }
 {
-    let who = c.initiators;
-    let shelf = c.units;
-    let acl = c.acl;
-    let live = c.tokens;
-    let assigned = c.proxies;
     let first = put_switch(text, 0, limit, c.enabled);
-    let second = initiators::put_initiators(text, first, limit, who);
-    let third = units::put_units(text, second, limit, shelf);
-    let fourth = granted::put_aces(text, third, limit, acl);
-    let fifth = tokens::put_tokens(text, fourth, limit, live);
-    proxies::put_proxies(text, fifth, limit, live, assigned)
+    let second = initiators::put_initiators(text, first, limit, &c.initiators);
+    let third = units::put_units(text, second, limit, c.units.in_use());
+    let fourth = granted::put_aces(text, third, limit, &c.acl);
+    let fifth = tokens::put_tokens(text, fourth, limit, &c.tokens);
+    proxies::put_proxies(text, fifth, limit, c.tokens.in_use(), &c.proxies)
 }
 
 // The state in words, as much of it as the text has room for, and how long it is; nothing if the state does not stand.
 pub fn put_state(c: Coordinator, text: &mut [u8]) -> usize
     ensures { Wrote (length text.old) 0 (state_text c) text.old result text.new }
 {
-    if !rules::standing(c) {
+    if !rules::standing(&c) {
         return 0;
     }
     let limit = text.len();
-    put_standing(c, text, limit)
+    put_standing(&c, text, limit)
 }

@@ -1,10 +1,9 @@
 // The units, by number.
-ghost use Rattle.std.specs.Prelude.{◌≡◌, ◌+◌, ◌≤◌, length, take};
+ghost use Rattle.std.specs.Prelude.{◌+◌, ◌≤◌, length};
 ghost use Rattle.wire.specs.Write.{Wrote};
 ghost use Rattle.acl.specs.State.{unit_line, unit_lines, units_text};
 
 use crate::naming;
-use paper::state::Units;
 
 // The line of a unit: its number and its default LUN.
 fn put_line(text: &mut [u8], at: usize, limit: usize, unit: usize, lun: u16) -> usize
@@ -19,30 +18,24 @@ fn put_line(text: &mut [u8], at: usize, limit: usize, unit: usize, lun: u16) -> 
 }
 
 // A line for each, by number.
-fn put_lines(text: &mut [u8], at: usize, limit: usize, t: Units) -> usize
-    requires { (t.count ≤ 32) × (at + 1184 ≤ 4294967296) }
-    ensures wrote { Wrote limit at (unit_lines t.count (take t.count t.luns)) text.old result text.new }
+fn put_lines(text: &mut [u8], at: usize, limit: usize, luns: &[u16]) -> usize
+    requires { (length luns.now ≤ 32) × (at + 1184 ≤ 4294967296) }
+    ensures wrote { Wrote limit at (unit_lines (length luns.now) luns.now) text.old result text.new }
     ensures fits { result ≤ at + 1184 }
-    ensures counted { length (take t.count t.luns) ≡ t.count }
 {
-    let n = t.count;
-    let luns = t.luns;
     let mut to = at;
-    let mut u = 0;
-    while u < n {
-        to = put_line(text, to, limit, u, luns[u]);
-        u += 1;
+    for (unit, lun) in luns.iter().enumerate() {
+        to = put_line(text, to, limit, unit, *lun);
     }
     to
 }
 
 // The part of the units.
-pub fn put_units(text: &mut [u8], at: usize, limit: usize, t: Units) -> usize
-    requires { (t.count ≤ 32) × (at + 1218 ≤ 4294967296) }
-    ensures wrote { Wrote limit at (units_text (take t.count t.luns)) text.old result text.new }
+pub fn put_units(text: &mut [u8], at: usize, limit: usize, luns: &[u16]) -> usize
+    requires { (length luns.now ≤ 32) × (at + 1218 ≤ 4294967296) }
+    ensures wrote { Wrote limit at (units_text luns.now) text.old result text.new }
     ensures fits { result ≤ at + 1218 }
 {
-    let n = t.count;
-    let next = naming::put_head(text, at, limit, b"Units: ", n);
-    put_lines(text, next, limit, t)
+    let next = naming::put_head(text, at, limit, b"Units: ", luns.len());
+    put_lines(text, next, limit, luns)
 }

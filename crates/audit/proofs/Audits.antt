@@ -3,11 +3,12 @@ use Prim.Native.Nat.{ℕ}
 use mathlib.Core.Path.{◌≡◌, refl, sym, subst}
 use mathlib.Core.List.{List, [], ◌∷◌, map}
 use mathlib.Core.Bool.{Bool, true, false, cond}
+use Rattle.std.specs.Prelude.{Option, Some, None}
 use lib.ListN.{length, take}
 use lib.Dec.{eqb}
-use Rattle.lists.specs.Lists.{keep, parts, gather, count}
+use Rattle.lists.specs.Lists.{keep, parts, count}
 use Rattle.lists.specs.Order.{sort}
-use Rattle.lists.proofs.Tests.{split, both, clashes}
+use Rattle.lists.proofs.Tests.{both}
 use Rattle.paper.specs.Setup.{setup_in}
 use Rattle.paper.specs.Fresh.{fresh}
 use Rattle.paper.specs.Readings.{Stands}
@@ -23,8 +24,9 @@ use Rattle.journal.specs.Reached.{Reached}
 use Rattle.journal.proofs.ReplayRuns.{reach_keeps, nothing_reached, step_reached}
 use Rattle.audit.specs.Deeds.{done_by}
 use Rattle.audit.specs.Ledger.{deed_bytes, forgotten, runs_of}
-use Rattle.audit.specs.Following.{Kept, changed_by, followed, Auditing, begun, answered, lengthened, fed, ended}
+use Rattle.audit.specs.Following.{Kept, changed_by, changed_if, followed, Auditing, begun, answered, lengthened, fed, ended}
 use Rattle.audit.specs.declared.following.Inquiry.{Inquiry}
+use Rattle.audit.specs.declared.ledger.Deed.{Deed}
 use Rattle.audit.proofs.Grounds.{deed_size}
 use Rattle.audit.proofs.Standing.{stands_are_reach}
 
@@ -39,14 +41,14 @@ replays q a (b ∷ s) = go (is_end b) (replays q (answered q a) s) (replays q (l
     go false whole part = part
 
 -- ---- a line that is no setup, command or link event changes nothing
-same_state : (c : Coordinator) (number : ℕ) (line : Line) → (done_by line).counts ≡ false → (step_line c number line).state ≡ c
+same_state : (c : Coordinator) (number : ℕ) (line : Line) → done_by number line ≡ None → (step_line c number line).state ≡ c
 unfolding done_by step_line step_said
 same_state c number skipped e = refl
 same_state c number too_long e = refl
 same_state c number (expected k kind) e = refl
-same_state c number (said (setup ids luns)) e = clashes refl e
-same_state c number (said (command i cdb list random n)) e = clashes refl e
-same_state c number (said (link i)) e = clashes refl e
+same_state c number (said (setup ids luns)) e = cc
+same_state c number (said (command i cdb list random n)) e = cc
+same_state c number (said (link i)) e = cc
 same_state c number (said (route i l)) e = refl
 same_state c number (said (reach n)) e = reach_keeps c n
 
@@ -67,13 +69,13 @@ unfolding followed changed_by
 line_rests q c number line k r =
     let after = (step_line c number line).state in
     let reached = step_reached c number line r.reached in
-    let done = done_by line in
-    record {
-      reached = reached;
-      listed = split done.counts
-          (λ e. rw e (stands_are_reach after (reached_stands after reached) q.unit (forgotten done.what k.standing) (deed_bytes done.what done.by number) (deed_size done.what done.by number)))
-          (λ e. rw e (subst (λ d. AsListed q.unit d k.standing) (sym (same_state c number line e)) r.listed));
-    }
+    record { reached = reached; listed = go (done_by number line) refl }
+  where
+    go : (done : Option Deed) → done_by number line ≡ done → AsListed q.unit (step_line c number line).state (changed_if q done (step_line c number line).state k).standing
+    go None e = subst (λ d. AsListed q.unit d k.standing) (sym (same_state c number line e)) r.listed
+    go (Some d) e =
+        let after = (step_line c number line).state in
+        stands_are_reach after (reached_stands after (step_reached c number line r.reached)) q.unit (forgotten d.what k.standing) (deed_bytes d) (deed_size d)
 
 abbrev pub RestsAt : Inquiry → Auditing → Type 0
 RestsAt q a = Rests q a.replaying.state a.kept.standing
@@ -92,7 +94,7 @@ unfolding ended
 ended_rests q a r = both (λ (x : Auditing). RestsAt q x) (eqb (length a.replaying.line) 0) r (answered_rests q a r)
 
 begun_rests : (q : Inquiry) → RestsAt q begun
-unfolding keep parts reach_rows sort gather count fresh
+unfolding parts reach_rows sort count fresh
 begun_rests q = record { reached = nothing_reached; listed = refl }
 
 -- after each part of an input, and at its end

@@ -96,3 +96,6 @@ row_most a tsv widths e h =
     let cells =
     gather_most (filled_cell a tsv widths e) 331 (below 6) (λ k m. let text = line_cell a e k in let width = get_or widths k 0 in omega (arith, length-append text (fill_text tsv width (length text)), line_cell_most a e k, fill_most tsv width (length text) (h k))) in
     simp length-append (omega (arith, cells, length_count 0 6, line_cell_most a e 6))
+
+-- what a caller's bounds rest on
+pub ruleset sizes = (decimal_most, what_most, sender_most, head_most, line_cell_most, fill_most)

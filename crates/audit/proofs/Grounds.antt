@@ -1,17 +1,16 @@
 -- The grounds that stand and those that end: how many bytes each takes, and which case of its definition each exit of the code is.
-use Prim.Native.Nat.{ℕ, zero, suc, ◌/◌, ◌-◌, ◌≤◌, ◌<◌}
-use mathlib.Core.Path.{◌≡◌, refl, ap, ap₂, ◌∙◌}
+use Prim.Native.Nat.{ℕ, zero, suc, ◌-◌, ◌≤◌}
+use mathlib.Core.Path.{◌≡◌, refl, sym, ap, ap₂, ◌∙◌}
 use mathlib.Core.List.{List, [], ◌∷◌, ◌++◌}
-use mathlib.Core.Option.{Option, some, none}
-use mathlib.Core.Bool.{true, false, ◌||◌}
+use Rattle.std.specs.Prelude.{Option, Some, None}
+use mathlib.Core.Bool.{◌||◌}
 use native.Mathlib.Omega.{arith}
 use native.Mathlib.Nat.{sub-zero, suc-sub-suc, zero-sub}
-use lib.ListN.{length, get_or, take, drop, length-append, length-drop}
+use lib.ListN.{length, take, drop, length-append, length-drop}
 use lib.Seq.{take_all, take-nil, drop-nil}
 use lib.Dec.{ltb}
-use borrow.Author.Tests.{eq-eqb, ne_eqb, lt-ltb, le-ltb}
 use Rattle.lists.specs.Bytes.{be}
-use Rattle.lists.specs.Lists.{find, place_of, any}
+use Rattle.lists.specs.Lists.{find, any}
 use Rattle.lists.proofs.Tests.{both}
 use Rattle.lists.proofs.Bytes.{bytes_length}
 use Rattle.lists.proofs.Deliver.{take_deliver}
@@ -20,20 +19,21 @@ use Rattle.paper.specs.Outcomes.{Decision, refuse, check, good, decide_reach, ou
 use Rattle.paper.specs.declared.outcomes.Outcome.{Outcome}
 use Rattle.paper.specs.declared.state.Coordinator.{Coordinator}
 use Rattle.journal.proofs.Lent.{reach_fits}
-use Rattle.audit.specs.Ledger.{deed_bytes, runs_of, same_row, of_unit, or_begun, held_over, stands_by, ends_by, replied_bytes, rows_after, forgotten}
-use Rattle.audit.proofs.Runs.{run_at, run_size, found_run, found_none}
+use Rattle.audit.specs.Ledger.{deed_bytes, runs_of, same_row, of_unit, or_begun, held_over, stands_by, ends_by, replied_bytes, rows_after}
+use Rattle.audit.specs.declared.ledger.Deed.{Deed}
+use Rattle.audit.proofs.Runs.{run_size}
 
 -- ---- sizes
-pub deed_size : (what by line : ℕ) → length (deed_bytes what by line) ≡ 10
-deed_size what by line = rw (bytes_length 8 line)
+pub deed_size : (d : Deed) → length (deed_bytes d) ≡ 10
+deed_size d = rw (bytes_length 8 d.line)
 
 pub held_size : (standing deed row : List ℕ) → length deed ≡ 10 → length row ≡ 4 → length (held_over (runs_of 14 standing) deed row) ≡ 14
 unfolding held_over
 held_size standing deed row d r = go (find (same_row row) (runs_of 14 standing)) refl
   where
     go : (o : Option (List ℕ)) → find (same_row row) (runs_of 14 standing) ≡ o → length (or_begun (row ++ deed) o) ≡ 14
-    go none q = omega (arith, length-append row deed)
-    go (some e) q = run_size 14 standing (find_in (same_row row) (runs_of 14 standing) q).0
+    go None q = omega (arith, length-append row deed)
+    go (Some e) q = run_size 14 standing (find_in (same_row row) (runs_of 14 standing) q).0
 
 pub stand_most : (unit : ℕ) (standing deed row : List ℕ) → length deed ≡ 10 → length row ≡ 4 → length (stands_by unit (runs_of 14 standing) deed row) ≤ 14
 unfolding stands_by
@@ -46,39 +46,12 @@ end_most rows deed to e d h =
     both (λ (l : List ℕ). length l ≤ 24) (any (same_row e) rows || ltb to (be 8 e 6)) (omega arith) (omega (arith, length-append e deed))
 
 -- ---- a ground that stood before, or begins
-module _ (standing deed row : List ℕ) {k : ℕ} (at : k ≡ place_of (same_row row) (runs_of 14 standing)) where
-  pub held_before : k < length standing / 14 → held_over (runs_of 14 standing) deed row ≡ run_at 14 standing k
-  unfolding held_over
-  held_before h = rw (found_run 14 standing row at h)
+pub held_is : (standing deed row : List ℕ) {o : Option (List ℕ)} → o ≡ find (same_row row) (runs_of 14 standing) → or_begun (row ++ deed) o ≡ held_over (runs_of 14 standing) deed row
+unfolding held_over
+held_is standing deed row e = ap (or_begun (row ++ deed)) e
 
-  pub held_new : length standing / 14 ≤ k → held_over (runs_of 14 standing) deed row ≡ row ++ deed
-  unfolding held_over
-  held_new h = rw (found_none 14 standing row at h)
-
--- of the unit, or not
-module _ (unit : ℕ) (standing : List (List ℕ)) (deed row : List ℕ) where
-  pub stands_of : get_or row 2 0 ≡ unit → stands_by unit standing deed row ≡ held_over standing deed row
-  unfolding stands_by
-  stands_of e = rw (eq-eqb (get_or row 2 0) unit e)
-
-  pub stands_not : (get_or row 2 0 ≡ unit → ⊥) → stands_by unit standing deed row ≡ []
-  unfolding stands_by
-  stands_not e = rw (ne_eqb (get_or row 2 0) unit e)
-
--- ---- a ground that still stands, began later than asked for, or ends
-module _ (rows : List (List ℕ)) (deed : List ℕ) (to : ℕ) (e : List ℕ) where
-  pub end_stands : any (same_row e) rows ≡ true → ends_by rows deed to e ≡ []
-  unfolding ends_by
-  end_stands h = rw h
-
-  module _ (h : any (same_row e) rows ≡ false) {begun : ℕ} (b : begun ≡ be 8 e 6) where
-    pub end_later : to < begun → ends_by rows deed to e ≡ []
-    unfolding ends_by
-    end_later l = rw (h, ← b, lt-ltb to begun l)
-
-    pub end_now : begun ≤ to → ends_by rows deed to e ≡ e ++ deed
-    unfolding ends_by
-    end_now l = rw (h, ← b, le-ltb to begun l)
+pub held_long : (standing row : List ℕ) {e : List ℕ} → Some e ≡ find (same_row row) (runs_of 14 standing) → length e ≡ 14
+held_long standing row is = run_size 14 standing (find_in (same_row row) (runs_of 14 standing) (sym is)).0
 
 -- ---- what a decision delivers is read back from the buffer
 pub reply_is : (c : Coordinator) (d : Decision) (buffer : List ℕ) → (outcome_of c d).delivered ≤ length buffer → take (outcome_of c d).delivered (buffer_after d buffer) ≡ replied_bytes d
@@ -117,10 +90,3 @@ unfolding rows_after
 rows_few c =
     let d = decide_reach c 65536 in
     omega (arith, length-drop 8 (replied_bytes d), replied_size c d, reach_fits c 65536 {o = outcome_of c d} refl)
-
--- ---- "all before it is forgotten"
-pub forgets : (what : ℕ) (bytes : List ℕ) → what ≡ 0xFF → forgotten what bytes ≡ []
-forgets what bytes e = rw (eq-eqb what 0xFF e)
-
-pub remembers : (what : ℕ) (bytes : List ℕ) → (what ≡ 0xFF → ⊥) → forgotten what bytes ≡ bytes
-remembers what bytes e = rw (ne_eqb what 0xFF e)

@@ -2,10 +2,10 @@
 use Prim.Native.Nat.{ℕ, suc, ◌+◌, ◌≤◌}
 use mathlib.Core.Path.{◌≡◌, refl, sym, ap, ap₂, ◌∙◌}
 use mathlib.Core.List.{List, [], ◌∷◌, ◌++◌, append_assoc, append-nil}
-use mathlib.Core.Bool.{Bool, true, false, cond, ◌&&◌}
+use mathlib.Core.Bool.{Bool, true, cond, ◌&&◌}
 use native.Mathlib.Omega.{arith}
 use lib.ListN.{length, take, set, length-take, length-set, length-append}
-use lib.Seq.{take_all, take-take, take-set-le, take-suc-set}
+use lib.Seq.{take_all, take_at, take-take, take-set-le, take-suc-set}
 use lib.Dec.{ltb, leb}
 use borrow.Author.Tests.{lt-ltb, le-leb, leb-true}
 use Rattle.lists.specs.Bytes.{deliver}
@@ -14,15 +14,12 @@ use Rattle.lists.proofs.Tests.{split, both, and_true}
 use Rattle.wire.specs.Write.{put_at, writes, Wrote}
 use Rattle.wire.proofs.Writing.{delivered}
 use Rattle.paper.specs.declared.state.Coordinator.{Coordinator}
-use Rattle.journal.specs.Statements.{Line}
-use Rattle.audit.specs.Deeds.{done_by}
 use Rattle.audit.specs.Ledger.{deed_bytes, forgotten, rows_after, stands_after, ends_after}
-use Rattle.audit.specs.Following.{Kept, kept_in, fits, counted_from, changed_by, deed_of, followed}
+use Rattle.audit.specs.Following.{Kept, kept_in, fits, counted_from, changed_by}
 use Rattle.audit.specs.Room.{Within}
-use Rattle.audit.specs.declared.deeds.Done.{Done}
 use Rattle.audit.specs.declared.ledger.Deed.{Deed}
 use Rattle.audit.specs.declared.following.Inquiry.{Inquiry}
-use Rattle.audit.specs.declared.following.Grounds.{Grounds}
+use Rattle.audit.specs.declared.ledger.Grounds.{Grounds}
 
 -- ---- at the start of a buffer: a text that fits is there whole
 stands_there : (limit e : ℕ) (xs b₀ b₁ : List ℕ) → Wrote limit 0 xs b₀ e b₁ → e ≤ limit → limit ≡ length b₀ → take e b₁ ≡ xs
@@ -31,13 +28,6 @@ stands_there limit e xs b₀ b₁ w fits long =
     let all : take limit xs ≡ xs = take_all limit xs (omega arith) in
     ap (take e) (delivered w ∙ ap (λ l. deliver l b₀) all)
     ∙ (ap (λ n. take n (deliver xs b₀)) size ∙ (take_deliver xs b₀ (length xs) (omega arith) (omega arith) ∙ take_all (length xs) xs (omega arith)))
-
--- and so is its copy
-copied : {limit e : ℕ} {xs b₀ b₁ : List ℕ} → Wrote limit 0 xs b₀ e b₁ → e ≤ limit → limit ≡ length b₀ → {room n : ℕ} {c₀ c₁ : List ℕ} → Wrote room 0 (take e b₁) c₀ n c₁ → e ≤ room → room ≡ length c₀ → take e c₁ ≡ xs
-copied {limit} {e} {xs} {b₀} {b₁} w fits long {room} {n} {c₀} {c₁} v fit same =
-    let there = stands_there limit e xs b₀ b₁ w fits long in
-    let size : n ≡ e = omega (arith, v.ended, ap length there, w.ended) in
-    ap (λ k. take k c₁) (sym size) ∙ (stands_there room n (take e b₁) c₀ c₁ v (omega arith) same ∙ there)
 
 -- ---- behind a place
 front_kept : (limit at : ℕ) (xs buf : List ℕ) → take at (writes limit at xs buf) ≡ take at buf
@@ -69,10 +59,10 @@ module _ (q : Inquiry) (d : Deed) (c : Coordinator) (before : Grounds) (standing
   was = kept_in before standing₀ ended₀
 
   abbrev ends : List ℕ
-  ends = ends_after (take before.standing standing₀) (forgotten d.what (rows_after c)) (deed_bytes d.what d.by d.line) q.to
+  ends = ends_after (take before.standing standing₀) (forgotten d.what (rows_after c)) (deed_bytes d) q.to
 
   abbrev stood : List ℕ
-  stood = stands_after q.unit (forgotten d.what (take before.standing standing₀)) (rows_after c) (deed_bytes d.what d.by d.line)
+  stood = stands_after q.unit (forgotten d.what (take before.standing standing₀)) (rows_after c) (deed_bytes d)
 
   -- those that ended, and how many bytes they are
   module _ {e : ℕ} {ended₁ : List ℕ} (w : Wrote (length ended₀) before.ended ends ended₀ e ended₁) (within : before.ended ≤ length ended₀) {past : ℕ} (so : past ≡ cond (ltb d.line q.from) before.ended e) where
@@ -107,10 +97,13 @@ module _ (q : Inquiry) (d : Deed) (c : Coordinator) (before : Grounds) (standing
       unfolding fits
       fits_so e = e ∙ ap₂ (λ (m n : ℕ). leb m 65536 && leb n 393216) standing_size_lem (sym ended_size_lem)
 
-      pub kept_so : stands ≤ limit → limit ≡ length next₀ → {n : ℕ} {standing₁ : List ℕ} → Wrote (length standing₀) 0 (take stands next₁) standing₀ n standing₁ → stands ≤ length standing₀ → past ≤ length ended₀ → kept_in (record { standing = stands; ended = past }) standing₁ ended₁ ≡ changed_by q d c was
+      -- what stands is copied to the start of its buffer
+      pub kept_so : stands ≤ limit → limit ≡ length next₀ → {copy : List ℕ} (after : List ℕ) → copy ≡ take stands next₁ → past ≤ length ended₀ → kept_in (record { standing = stands; ended = past }) (copy ++ after) ended₁ ≡ changed_by q d c was
       unfolding changed_by
-      kept_so few long copy fit room =
-          ap₂ (λ (x y : List ℕ). kept_of x y) (copied s few long copy fit refl) (ended_there room)
+      kept_so few long {copy} after same room =
+          let whole = stands_there limit stands stood next₀ next₁ s few long in
+          let size : length copy ≡ stands = omega (arith, ap length same, ap length whole, s.ended) in
+          ap₂ (λ (x y : List ℕ). kept_of x y) (take_at copy after stands size ∙ same ∙ whole) (ended_there room)
 
 pub ended_room : {g : Grounds} (ended : List ℕ) → Within g → length ended ≡ 393216 → g.ended ≤ length ended
 ended_room ended w long = omega (arith, w.ended_fits)
@@ -124,14 +117,3 @@ pub within_fits : {g : Grounds} → Within g → (standing ended : List ℕ) →
 unfolding fits
 within_fits {g} w standing ended =
     rw (le-leb (length (take g.standing standing)) 65536 (omega (arith, length-take g.standing standing, w.standing_fits)), le-leb (length (take g.ended ended)) 393216 (omega (arith, length-take g.ended ended, w.ended_fits)))
-
--- ---- a line that changes nothing, and one that may
-module _ (q : Inquiry) (number : ℕ) (line : Line) (c : Coordinator) (k : Kept) {done : Done} (e : done ≡ done_by line) where
-  pub unchanged : done.counts ≡ false → followed q number line c k ≡ k
-  unfolding followed
-  unchanged idle = rw (ap (λ d. d.counts) (sym e) ∙ idle)
-
-  pub changed_so : done.counts ≡ true → changed_by q (deed_of done number) c k ≡ followed q number line c k
-  unfolding followed
-  changed_so counts =
-      rw (ap (λ d. d.counts) (sym e) ∙ counts) (ap (λ d. changed_by q (deed_of d number) c k) e)

@@ -1,23 +1,23 @@
--- Runs of one size, for a loop that passes them by their places: where one stands, how a slice cuts it out, and what is left. A test of a run's first bytes looks at no others.
-use Prim.Native.Nat.{ℕ, zero, suc, ◌+◌, ◌*◌, ◌/◌, ◌-◌, ◌≤◌, ◌<◌}
-use mathlib.Core.Path.{◌≡◌, refl, ap, sym, ◌∙◌}
-use mathlib.Core.List.{List, [], ◌∷◌, map, append-nil}
-use mathlib.Core.Option.{some, none}
-use mathlib.Core.Bool.{Bool, true, false}
+-- Runs of one size: the first and the rest, as std's chunks pass them.
+use Prim.Native.Nat.{ℕ, zero, suc, ◌+◌, ◌*◌, ◌/◌, ◌≤◌, ◌<◌}
+use mathlib.Core.Path.{◌≡◌, ap, ap₂, ◌∙◌}
+use mathlib.Core.List.{List, [], ◌∷◌, ◌++◌, map, append-nil}
 use mathlib.Core.Logic.{⊎_elim}
 use native.Mathlib.Omega.{arith}
-use native.Mathlib.Nat.{mul_comm, mul-suc, suc-mul, add-sub_cancel_left, le_trans, mul-le-mul_right, div-mul-le_self, div-le_self, mul-div_cancel_left}
-use lib.ListN.{length, get_or, take, drop, length-drop, drop_of_length-le}
-use lib.Seq.{get_or-take, length-take-le}
-use borrow.Author.Tests.{lt-ltb, le-ltb}
-use Rattle.lists.specs.Bytes.{same_bytes}
-use Rattle.lists.specs.Lists.{◌∈◌, find, place_of, any, gather, parts}
-use Rattle.lists.proofs.Members.{in_cons, any_none, none_find, place_any, place_find}
-use Rattle.lists.proofs.Pages.{rest_is}
-use Rattle.lists.proofs.Parts.{length_parts, get_or_parts, length_gather, parts_gather}
-use Rattle.lists.proofs.Walk.{drop_one}
-use Rattle.paper.proofs.ListLaws.{same_like}
-use Rattle.audit.specs.Ledger.{runs_of, same_row}
+use native.Mathlib.Nat.{mul_comm, mul-suc, div-mul-le_self, mul-div_cancel_left, add-div_left, div-eq_of_lt, div-le_self}
+use native.Mathlib.Numerals.{suc-eq-add-one}
+use denote.Ref.{Bor}
+use lib.ListN.{length, drop, length-append, length-drop}
+use lib.Seq.{length-take-le, take_at, drop_at}
+use Rattle.std.specs.Prelude.{Some, None}
+use Rattle.std.specs.Iterator.{AlwaysYields}
+use Rattle.std.specs.Slice.Iter.{chunks_exact_rest, chunks_exact_size, chunks_exact_steps}
+use Rattle.std.specs.declared.slice.ChunksExact.{ChunksExact}
+use Rattle.std.proofs.lemmas.Iterator.{YieldsList}
+use Rattle.lists.specs.Lists.{◌∈◌, gather, parts}
+use Rattle.lists.proofs.Members.{in_cons}
+use Rattle.lists.proofs.Parts.{length_parts, length_gather, parts_gather}
+use Rattle.audit.specs.Ledger.{runs_of}
 
 -- each part has the size, where there are so many elements
 part_size : (size n : ℕ) (s : List ℕ) {x : List ℕ} → size * n ≤ length s → x ∈ parts size n s → length x ≡ size
@@ -30,73 +30,49 @@ part_size size (suc n) s h m =
     (λ k. part_size size n (drop size s) (omega (arith, length-drop size s)) k)
     (in_cons m)
 
--- the run at a place
-abbrev pub run_at : ℕ → List ℕ → ℕ → List ℕ
-run_at size s k = take size (drop (k * size) s)
+pub run_size : (size : ℕ) (s : List ℕ) {x : List ℕ} → x ∈ runs_of size s → length x ≡ size
+run_size size s m =
+    part_size size (length s / size) s (rw (mul_comm size (length s / size)) (div-mul-le_self (length s) size)) m
 
-module _ (size : ℕ) (s : List ℕ) where
-  -- ---- how many there are, and that each has the size
-  pub runs_count : length (runs_of size s) ≡ length s / size
-  runs_count = length_parts size (length s / size) s
+pub few_runs : (size : ℕ) (s : List ℕ) → length (runs_of size s) ≤ length s
+few_runs size s = omega (arith, length_parts size (length s / size) s, div-le_self (length s) size)
 
-  pub run_size : {x : List ℕ} → x ∈ runs_of size s → length x ≡ size
-  run_size m =
-      part_size size (length s / size) s (rw (mul_comm size (length s / size)) (div-mul-le_self (length s) size)) m
+-- ---- a run and the rest, or fewer bytes than a run has
+pub run_first : (size : ℕ) (x rest : List ℕ) → 0 < size → length x ≡ size → runs_of size (x ++ rest) ≡ x ∷ runs_of size rest
+unfolding parts
+run_first size x rest some long =
+    let more : length (x ++ rest) / size ≡ length rest / size + 1 =
+    ap (λ n. n / size) (omega (arith, length-append x rest, long)) ∙ add-div_left (length rest) some in
+    rw (more, ← suc-eq-add-one)
+    (ap₂ (λ (y : List ℕ) (t : List ℕ). y ∷ parts size (length rest / size) t) (take_at x rest size long) (drop_at x rest size long))
 
-  -- ---- the run at a place, as the code cuts it out
-  pub cut_is : (k : ℕ) → take (k * size + size - k * size) (drop (k * size) s) ≡ run_at size s k
-  cut_is k = rw (add-sub_cancel_left (k * size) size)
+pub runs_none : (size : ℕ) (rest : List ℕ) → length rest < size → runs_of size rest ≡ []
+unfolding parts
+runs_none size rest h = rw (div-eq_of_lt h)
 
-  module _ {k : ℕ} (h : k < length s / size) where
-    -- it stands in the bytes, and so does its place
-    pub run_room : k * size + size ≤ length s
-    run_room = rw suc-mul at (le_trans (mul-le-mul_right size h) (div-mul-le_self (length s) size))
+-- a step of std's chunks takes the first run; they end where there is none
+module _ (size : ℕ) (s t : ChunksExact ℕ) (some : 0 < size) (e : chunks_exact_size s ≡ size) where
+  pub chunk_next : (x : Bor (List ℕ)) → chunks_exact_steps s (Some x) t → (chunks_exact_size t ≡ size) × (length x.now ≡ size) × (runs_of size (chunks_exact_rest s) ≡ x.now ∷ runs_of size (chunks_exact_rest t))
+  chunk_next x step =
+      (step.0 ∙ e, step.1.1 ∙ e, ap (runs_of size) step.1.0 ∙ run_first size x.now (chunks_exact_rest t) some (step.1.1 ∙ e))
 
-    pub run_below : k < length s
-    run_below = le_trans h (div-le_self (length s) size)
+  pub chunks_end : chunks_exact_steps s None t → runs_of size (chunks_exact_rest s) ≡ []
+  chunks_end step = runs_none size (chunks_exact_rest s) (omega (arith, step.1.0))
 
-    pub run_long : length (run_at size s k) ≡ size
-    run_long = length-take-le size (drop (k * size) s) (omega (arith, run_room, length-drop (k * size) s))
+yields : (size : ℕ) (l : List (List ℕ)) (s : ChunksExact ℕ) → 0 < size → chunks_exact_size s ≡ size → runs_of size (chunks_exact_rest s) ≡ l → AlwaysYields chunks_exact_steps (λ x. x.now) s l
+yields size [] s some e is = λ x t step. let first = (chunk_next size s t some e x step).2 in cc
+yields size (y ∷ l) s some e is = (
+  (λ t step. let none = chunks_end size s t some e step in cc),
+  λ x t step.
+      let next = chunk_next size s t some e x step in
+      let first = next.2 in
+      ((cc), yields size l t some next.0 (cc)),
+)
 
-    pub cut_size : length (take (k * size + size - k * size) (drop (k * size) s)) ≡ size
-    cut_size = rw (cut_is k) run_long
-
-    pub run_at_lem : get_or (runs_of size s) k [] ≡ run_at size s k
-    run_at_lem = get_or_parts size (length s / size) s k [] h ∙ rw (mul_comm k size)
-
-    -- what is left: the run and the rest
-    pub runs_next : drop k (runs_of size s) ≡ run_at size s k ∷ drop (k + 1) (runs_of size s)
-    runs_next = drop_one [] (runs_of size s) k (omega (arith, runs_count)) ∙ rw run_at_lem
-
-  -- or nothing
-  pub runs_end : {k : ℕ} → length s / size ≤ k → drop k (runs_of size s) ≡ []
-  runs_end {k} h = drop_of_length-le (runs_of size s) {i = k} (omega (arith, runs_count))
-
-  -- ---- a run compared with a row, from its place on
-  pub run_same : (row : List ℕ) (k : ℕ) {b : Bool} → 4 ≤ size → b ≡ same_bytes 4 (take (length s - k * size) (drop (k * size) s)) row → same_row row (run_at size s k) ≡ b
-  run_same row k h e =
-      let tail = drop (k * size) s in
-      same_like 4 (take size tail) row tail row (λ i l. get_or-take size tail i 0 (omega arith)) (λ i l. refl) ∙ sym (e ∙ ap (λ l. same_bytes 4 l row) (rest_is s (k * size)))
-
--- the first run that begins with a row, by its place
-module _ (size : ℕ) (s row : List ℕ) {k : ℕ} (at : k ≡ place_of (same_row row) (runs_of size s)) where
-  pub some_run : k < length s / size → any (same_row row) (runs_of size s) ≡ true
-  some_run h =
-      let runs = runs_of size s in
-      sym (place_any (same_row row) runs)
-      ∙ lt-ltb (place_of (same_row row) runs) (length runs) (omega (arith, runs_count size s))
-
-  pub no_run : length s / size ≤ k → any (same_row row) (runs_of size s) ≡ false
-  no_run h =
-      let runs = runs_of size s in
-      sym (place_any (same_row row) runs)
-      ∙ le-ltb (place_of (same_row row) runs) (length runs) (omega (arith, runs_count size s))
-
-  pub found_run : k < length s / size → find (same_row row) (runs_of size s) ≡ some (run_at size s k)
-  found_run h = place_find (same_row row) [] (runs_of size s) (some_run h) ∙ rw (← at, run_at_lem size s h)
-
-  pub found_none : length s / size ≤ k → find (same_row row) (runs_of size s) ≡ none
-  found_none h = none_find (same_row row) (runs_of size s) (λ x m. any_none (same_row row) (no_run h) m)
+-- so they are the runs
+pub chunks_are_runs : {s : ChunksExact ℕ} (size : ℕ) (bytes : List ℕ) → 0 < size → chunks_exact_size s ≡ size → chunks_exact_rest s ≡ bytes → YieldsList chunks_exact_steps (λ x. x.now) s (runs_of size bytes)
+chunks_are_runs {s} size bytes some n e =
+    record { runs = yields size (runs_of size bytes) s some n (ap (runs_of size) e) }
 
 -- records of one size that were laid one after the other are the runs
 pub runs_laid : {A : Type 0} (f : A → List ℕ) (size : ℕ) (xs : List A) → 0 < size → ((x : A) → x ∈ xs → length (f x) ≡ size) → runs_of size (gather f xs) ≡ map f xs

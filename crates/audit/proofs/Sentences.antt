@@ -1,74 +1,43 @@
 -- Laws of the first line and the answer: who is named, the names joined, what the parts take.
-use Prim.Native.Nat.{ℕ, ◌+◌, ◌≤◌, ◌<◌}
-use mathlib.Core.Path.{◌≡◌}
-use mathlib.Core.List.{List, [], ◌∷◌, ◌++◌}
-use mathlib.Core.Bool.{Bool, true, false, cond, not, ◌&&◌}
+use Prim.Native.Nat.{ℕ, zero, suc, ◌+◌, ◌≤◌}
+use mathlib.Core.Path.{◌≡◌, sym, ap, ◌∙◌}
+use mathlib.Core.List.{List, [], ◌∷◌, ◌++◌, append-nil}
+use Rattle.std.specs.Prelude.{Option, Some, None}
+use mathlib.Core.Bool.{Bool, true, false, cond}
 use native.Mathlib.Omega.{arith}
-use native.Mathlib.Nat.{sub-zero}
+use native.Mathlib.Nat.{add-zero, zero-add}
+use native.Mathlib.Numerals.{add-one}
+use Rattle.std.proofs.lemmas.List.Elements.{filter-append}
 use lib.Dec.{eqb, ltb}
-use lib.ListN.{length, take, get_or, set, length-append, length-take, replicate}
-use Rattle.lists.specs.Lists.{any, keep, below}
+use lib.ListN.{length, take, get_or, length-append, length-take}
+use Rattle.lists.specs.Lists.{keep, count, below}
 use Rattle.lists.proofs.Members.{length_keep}
 use Rattle.lists.proofs.Parts.{length_count}
 use Rattle.lists.proofs.Sums.{gather_most}
-use Rattle.lists.proofs.Places.{between, between_cons, between_nil}
-use Rattle.lists.proofs.Tables.{Grown, grown_none, grown_step, grown_skip, grown_end, built_take, length_pad}
-use Rattle.journal.specs.Texts.{decimal_text, byte_text, comma_text}
+use Rattle.journal.specs.Texts.{decimal_text, comma_text}
 use Rattle.journal.proofs.Told.{either_most, decimal_most}
 use Rattle.audit.specs.declared.cells.Asked.{Asked}
-use Rattle.audit.specs.Sentence.{is_of, could, belongs, and_text, no_initiator, one_initiator, many_initiators, default_text, absent_text, ends_at_text, close_text, was_text, were_text, before, joined, named, openers, could_part, pending_text, wait_part, answer_text, place_text, past_text, unit_part, lines_part, first_text}
-
--- ---- who is named
-pub belongs_could : (a : Asked) (es : List (List ℕ)) (waits : Bool) (i : ℕ) → waits ≡ false → belongs a es waits i ≡ could a es i
-unfolding belongs
-belongs_could a es waits i e = rw e
-
-pub belongs_waits : (a : Asked) (es : List (List ℕ)) (waits : Bool) (i : ℕ) → waits ≡ true → belongs a es waits i ≡ not (could a es i) && any (is_of a i true) es
-unfolding belongs
-belongs_waits a es waits i e = rw e
+use Rattle.audit.specs.Sentence.{belongs, and_text, no_initiator, one_initiator, many_initiators, ends_at_text, close_text, was_text, were_text, before, joined, named, openers, could_part, pending_text, wait_part, answer_text, place_text, past_text, unit_part, lines_part, first_text}
 
 -- ---- the numbers below a size that pass a test: no more than the size
-keep_few : (p : ℕ → Bool) (size : ℕ) → length (keep p (below size)) ≤ size
+pub keep_few : (p : ℕ → Bool) (size : ℕ) → length (keep p (below size)) ≤ size
 keep_few p size = omega (arith, length_keep p (below size), length_count 0 size)
 
--- stored one after the other: those up to i are
-pub record Chosen (p : ℕ → Bool) (size i : ℕ) (items : List ℕ) (kept : ℕ) : Type 0 where
-  pub passed : i ≤ size
-  pub behind : kept ≤ i
-  pub grown : Grown 0 size (keep p (below size)) (keep p (between i size)) items kept
+-- one number more
+count_last : (k n : ℕ) → count k (suc n) ≡ count k n ++ ((k + n) ∷ [])
+unfolding count
+count_last k zero = ap (λ m. m ∷ []) (sym (add-zero k))
+count_last k (suc n) = ap (λ l. k ∷ l) (count_last (suc k) n ∙ ap (λ m. count (suc k) n ++ (m ∷ [])) (omega arith))
 
-pub chosen_none : (p : ℕ → Bool) (size : ℕ) → Chosen p size 0 (replicate size 0) 0
-chosen_none p size =
-    record {
-      passed = omega arith;
-      behind = omega arith;
-      grown = rw (sub-zero size) (grown_none 0 size (keep p (below size)) (keep_few p size));
-    }
+module _ (p : ℕ → Bool) (i : ℕ) where
+  kept_last : keep p (below (i + 1)) ≡ keep p (below i) ++ keep p (i ∷ [])
+  kept_last = ap (λ m. keep p (below m)) (add-one i) ∙ ap (keep p) (count_last 0 i ∙ ap (λ m. below i ++ (m ∷ [])) (zero-add i)) ∙ filter-append p (below i) (i ∷ [])
 
-module _ {p : ℕ → Bool} {size i : ℕ} {items : List ℕ} {kept : ℕ} (s : Chosen p size i items kept) where
-  pub chosen_more : {items' : List ℕ} {kept' : ℕ} {b : Bool} → i < size → b ≡ p i → b ≡ true → items' ≡ set items kept i → kept' ≡ kept + 1 → Chosen p size (i + 1) items' kept'
-  unfolding keep
-  chosen_more h t e f g =
-      record {
-        passed = omega arith;
-        behind = omega (arith, s.behind);
-        grown = rw (f, g) (grown_step s.grown (rw (between_cons i size h, ← t, e)));
-      }
+  pub kept_more : p i ≡ true → keep p (below (i + 1)) ≡ keep p (below i) ++ (i ∷ [])
+  kept_more e = kept_last ∙ rw e
 
-  pub chosen_less : {items' : List ℕ} {kept' : ℕ} {b : Bool} → i < size → b ≡ p i → b ≡ false → items' ≡ items → kept' ≡ kept → Chosen p size (i + 1) items' kept'
-  unfolding keep
-  chosen_less h t e f g =
-      record {
-        passed = omega arith;
-        behind = omega (arith, s.behind);
-        grown = rw (f, g) (grown_skip s.grown (rw (between_cons i size h, ← t, e)));
-      }
-
-  pub chosen_end : size ≤ i → (length items ≡ size) × (kept ≤ size) × (take kept items ≡ keep p (below size))
-  unfolding keep
-  chosen_end h =
-      let b = grown_end s.grown (rw (between_nil i size h)) in
-      (rw b.items_are (length_pad 0 size (keep p (below size)) (keep_few p size)), omega (arith, s.behind, s.passed), built_take b)
+  pub kept_same : p i ≡ false → keep p (below (i + 1)) ≡ keep p (below i)
+  kept_same e = kept_last ∙ rw e (append-nil (keep p (below i)))
 
 -- ---- a name, and what comes before it
 abbrev pub name_text : List ℕ → ℕ → List ℕ
@@ -127,9 +96,10 @@ answer_most a unit es =
     let waits = belongs a es true in
     simp length-append (omega (arith, could_most unit (keep could (below 16)) (keep_few could 16), wait_most (keep waits (below 16)) (keep_few waits 16)))
 
-pub place_most : (there : Bool) (nn : ℕ) → length (place_text there nn) ≤ 29
+pub place_most : (place : Option ℕ) → length (place_text place) ≤ 29
 unfolding place_text
-place_most there nn = either_most there 29 (default_text ++ byte_text nn) absent_text (omega arith) (omega arith)
+place_most None = omega arith
+place_most (Some nn) = omega arith
 
 pub past_most : (a : Asked) → length (past_text a) ≤ 48
 unfolding past_text
@@ -138,25 +108,19 @@ past_most a =
     either_most (ltb a.last a.to) 48 text []
     (simp length-append (omega (arith, decimal_most a.last))) (omega arith)
 
-pub unit_most : (unit : ℕ) (there : Bool) (nn : ℕ) → length (unit_part unit there nn) ≤ 54
+pub unit_most : (unit : ℕ) (place : Option ℕ) → length (unit_part unit place) ≤ 54
 unfolding unit_part
-unit_most unit there nn = simp length-append (omega (arith, decimal_most unit, place_most there nn))
+unit_most unit place = simp length-append (omega (arith, decimal_most unit, place_most place))
 
 pub lines_most : (a : Asked) → length (lines_part a) ≤ 109
 unfolding lines_part
 lines_most a =
     simp length-append (omega (arith, decimal_most a.from, decimal_most a.to, past_most a))
 
-pub first_most : (a : Asked) (unit : ℕ) (there : Bool) (nn : ℕ) → length (first_text a unit there nn) ≤ 164
+pub first_most : (a : Asked) (unit : ℕ) (place : Option ℕ) → length (first_text a unit place) ≤ 164
 unfolding first_text
-first_most a unit there nn =
-    simp length-append (omega (arith, unit_most unit there nn, lines_most a))
+first_most a unit place =
+    simp length-append (omega (arith, unit_most unit place, lines_most a))
 
--- ---- the place of the unit
-pub place_there : (there : Bool) (nn : ℕ) → there ≡ true → place_text there nn ≡ default_text ++ byte_text nn
-unfolding place_text
-place_there there nn e = rw e
-
-pub place_absent : (there : Bool) (nn : ℕ) → there ≡ false → place_text there nn ≡ absent_text
-unfolding place_text
-place_absent there nn e = rw e
+-- what a caller's bounds rest on
+pub ruleset sizes = (decimal_most, taken_most, before_most, named_most, openers_most, could_most, wait_most, place_most, past_most, unit_most, lines_most)

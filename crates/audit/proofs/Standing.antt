@@ -2,7 +2,7 @@
 use Prim.Native.Nat.{ℕ, ◌+◌, ◌*◌}
 use mathlib.Core.Path.{◌≡◌, refl, ap, sym, ◌∙◌}
 use mathlib.Core.List.{List, [], ◌∷◌, ◌++◌, map, append_assoc}
-use mathlib.Core.Option.{Option, some, none}
+use Rattle.std.specs.Prelude.{Option, Some, None}
 use mathlib.Core.Bool.{true, cond}
 use native.Mathlib.Omega.{arith}
 use lib.ListN.{length, take, drop, length-append}
@@ -30,14 +30,14 @@ unfolding held_over
 held_row before deed row h = go (find (same_row row) (runs_of 14 before)) refl
   where
     go : (o : Option (List ℕ)) → find (same_row row) (runs_of 14 before) ≡ o → take 4 (or_begun (row ++ deed) o) ≡ row
-    go none q = take_at row deed 4 h
-    go (some e) q =
+    go None q = take_at row deed 4 h
+    go (Some e) q =
         let f = find_in (same_row row) (runs_of 14 before) q in
         same_take e row 4 (omega (arith, run_size 14 before f.0)) (omega arith) f.1 ∙ take_all 4 row (omega arith)
 
 -- ---- only rows of the unit give something
 of_unit_lem : (unit : ℕ) (runs : List (List ℕ)) (deed : List ℕ) (rows : List (List ℕ)) → gather (stands_by unit runs deed) rows ≡ gather (held_over runs deed) (keep (of_unit unit) rows)
-unfolding gather stands_by
+unfolding stands_by
 of_unit_lem unit runs deed [] = sym (kept_none (held_over runs deed) (of_unit unit))
 of_unit_lem unit runs deed (row ∷ rows) =
     rw (of_unit_lem unit runs deed rows) (sym (kept_next (held_over runs deed) (of_unit unit) row rows))

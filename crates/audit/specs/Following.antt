@@ -1,14 +1,13 @@
 -- The grounds of a unit followed through a journal, line by line, beside its replay (Lines.fed; docs/AUDIT.md).
-use Rattle.std.specs.Prelude.{ℕ, List, [], ◌∷◌, ◌++◌, Bool, cond, ◌&&◌, length, take, eqb, ltb, leb}
+use Rattle.std.specs.Prelude.{ℕ, List, [], ◌∷◌, ◌++◌, Bool, cond, ◌&&◌, length, take, eqb, ltb, leb, Option, Some, None}
 use Rattle.paper.specs.declared.state.Coordinator.{Coordinator}
 use Rattle.journal.specs.Statements.{Line, read_line}
 use Rattle.journal.specs.Lines.{is_end, Replaying, begun as started_replay, answered as answered_replay, lengthened as lengthened_replay}
 use Rattle.audit.specs.Deeds.{done_by}
 use Rattle.audit.specs.Ledger.{deed_bytes, forgotten, rows_after, stands_after, ends_after}
-use Rattle.audit.specs.declared.deeds.Done.{Done}
 use Rattle.audit.specs.declared.ledger.Deed.{Deed}
 use Rattle.audit.specs.declared.following.Inquiry.{Inquiry}
-use Rattle.audit.specs.declared.following.Grounds.{Grounds}
+use Rattle.audit.specs.declared.ledger.Grounds.{Grounds}
 
 -- ---- "An audit keeps what stands and what ended"
 pub record Kept : Type 0 where
@@ -31,16 +30,18 @@ counted_from from line ends = cond (ltb line from) [] ends
 unfoldable pub changed_by : Inquiry → Deed → Coordinator → Kept → Kept
 changed_by q d c k =
     record {
-      standing = stands_after q.unit (forgotten d.what k.standing) (rows_after c) (deed_bytes d.what d.by d.line);
-      ended = k.ended ++ counted_from q.from d.line (ends_after k.standing (forgotten d.what (rows_after c)) (deed_bytes d.what d.by d.line) q.to);
+      standing = stands_after q.unit (forgotten d.what k.standing) (rows_after c) (deed_bytes d);
+      ended = k.ended ++ counted_from q.from d.line (ends_after k.standing (forgotten d.what (rows_after c)) (deed_bytes d) q.to);
     }
 
-abbrev pub deed_of : Done → ℕ → Deed
-deed_of done number = record { what = done.what; by = done.by; line = number }
+-- if it did something that may
+abbrev pub changed_if : Inquiry → Option Deed → Coordinator → Kept → Kept
+changed_if q None c k = k
+changed_if q (Some d) c k = changed_by q d c k
 
 -- after any line
 unfoldable pub followed : Inquiry → ℕ → Line → Coordinator → Kept → Kept
-followed q number line c k = cond (done_by line).counts (changed_by q (deed_of (done_by line) number) c k) k
+followed q number line c k = changed_if q (done_by number line) c k
 
 -- ---- an input, byte by byte: where its replay is, and what is kept
 pub record Auditing : Type 0 where

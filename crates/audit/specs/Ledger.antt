@@ -1,14 +1,15 @@
 -- The grounds of one unit, followed from statement to statement (docs/AUDIT.md). A ground that stands is 14 bytes: its row of the reach list, and what it began with; one that ended is 24: what it ended with comes behind.
 use Rattle.std.specs.Prelude.{ℕ, ◌/◌, List, [], ◌∷◌, ◌++◌, Bool, cond, ◌||◌, length, get_or, drop, eqb, ltb}
-use Rattle.std.proofs.Math.Option.{Option, some, none}
+use Rattle.std.specs.Prelude.{Option, Some, None}
 use Rattle.lists.specs.Lists.{find, any, gather, parts}
 use Rattle.lists.specs.Bytes.{be, be_bytes, same_bytes}
 use Rattle.paper.specs.Outcomes.{Decision, refuse, check, good, decide_reach}
 use Rattle.paper.specs.declared.state.Coordinator.{Coordinator}
+use Rattle.audit.specs.declared.ledger.Deed.{Deed}
 
 -- ---- what began or ended a ground: which statement (FFh a setup, FEh a link event, else a command's service action), by whom, at which line
-abbrev pub deed_bytes : ℕ → ℕ → ℕ → List ℕ
-deed_bytes what by line = what ∷ by ∷ be_bytes 8 line
+abbrev pub deed_bytes : Deed → List ℕ
+deed_bytes d = d.what ∷ d.by ∷ be_bytes 8 d.line
 
 -- ---- "four bytes a row: initiator, nn, unit, ground in ASCII"
 abbrev pub row_size : ℕ
@@ -36,8 +37,8 @@ begun_line e = be 8 e 6
 
 -- ---- "A ground begins at a line if it stands after that line and did not stand after the line before": what stood before keeps what it began with
 abbrev pub or_begun : List ℕ → Option (List ℕ) → List ℕ
-or_begun begun none = begun
-or_begun begun (some e) = e
+or_begun begun None = begun
+or_begun begun (Some e) = e
 
 unfoldable pub held_over : List (List ℕ) → List ℕ → List ℕ → List ℕ
 held_over standing deed row = or_begun (row ++ deed) (find (same_row row) standing)

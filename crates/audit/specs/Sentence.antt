@@ -1,5 +1,5 @@
 -- The first line of an audit, and its answer (docs/AUDIT.md).
-use Rattle.std.specs.Prelude.{ℕ, ◌+◌, List, [], ◌∷◌, ◌++◌, Bool, true, false, cond, not, ◌&&◌, length, get_or, eqb, ltb}
+use Rattle.std.specs.Prelude.{Option, Some, None, ℕ, ◌+◌, List, [], ◌∷◌, ◌++◌, Bool, true, false, cond, not, ◌&&◌, length, get_or, eqb, ltb}
 use Rattle.lists.specs.Lists.{any, keep, gather, below}
 use Rattle.journal.specs.Texts.{decimal_text, byte_text, unit_name, comma_text, end_text}
 use Rattle.audit.specs.Ledger.{ended_size, standing_size, runs_of}
@@ -108,17 +108,18 @@ answer_text a unit es =
 
 -- ---- the first line
 -- "its default LUN on the shelf as it is after the last line"
-unfoldable pub place_text : Bool → ℕ → List ℕ
-place_text there nn = cond there (default_text ++ byte_text nn) absent_text
+unfoldable pub place_text : Option ℕ → List ℕ
+place_text None = absent_text
+place_text (Some nn) = default_text ++ byte_text nn
 
 unfoldable pub past_text : Asked → List ℕ
 past_text a = cond (ltb a.last a.to) (ends_at_text ++ (decimal_text a.last ++ close_text)) []
 
-unfoldable pub unit_part : ℕ → Bool → ℕ → List ℕ
-unit_part unit there nn = unit_name ++ (decimal_text unit ++ place_text there nn)
+unfoldable pub unit_part : ℕ → Option ℕ → List ℕ
+unit_part unit place = unit_name ++ (decimal_text unit ++ place_text place)
 
 unfoldable pub lines_part : Asked → List ℕ
 lines_part a = lines_text ++ (decimal_text a.from ++ (to_text ++ (decimal_text a.to ++ past_text a)))
 
-unfoldable pub first_text : Asked → ℕ → Bool → ℕ → List ℕ
-first_text a unit there nn = unit_part unit there nn ++ (lines_part a ++ end_text)
+unfoldable pub first_text : Asked → ℕ → Option ℕ → List ℕ
+first_text a unit place = unit_part unit place ++ (lines_part a ++ end_text)

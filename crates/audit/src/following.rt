@@ -1,10 +1,10 @@
 // The grounds of a unit, followed through a journal line by line.
-ghost use Rattle.std.specs.Prelude.{◌≡◌, true, cond, ◌&&◌, ◌≤◌, length, ltb, leb};
+ghost use Rattle.std.specs.Prelude.{◌≡◌, cond, ◌&&◌, ◌≤◌, length, ltb, leb, IfSome, is_some};
 ghost use Rattle.journal.specs.Statements.{read_line};
 ghost use Rattle.audit.specs.Following.{kept_in, fits, changed_by, followed};
 ghost use Rattle.audit.specs.Room.{Within};
 
-use crate::ledger::Deed;
+use crate::ledger::{Deed, Grounds};
 use crate::{deeds, ledger};
 use paper::state::Coordinator;
 
@@ -16,27 +16,13 @@ pub struct Inquiry {
     pub to: u64,
 }
 
-// How many bytes the grounds that stand and those that ended take.
-#[derive(Clone, Copy)]
-pub struct Grounds {
-    pub standing: usize,
-    pub ended: usize,
-}
-
-// The grounds after a line, and whether there is room for them.
-#[derive(Clone, Copy)]
-pub struct Followed {
-    pub grounds: Grounds,
-    pub fits: bool,
-}
-
-fn fits(standing: usize, ended: usize) -> bool
-    ensures { result ≡ (leb standing 65536 && leb ended 393216) }
-{
-    if 65536 < standing {
-        return false;
+impl Grounds {
+    // Whether there is room for them.
+    fn fits(self) -> bool
+        ensures { result ≡ (leb self.standing 65536 && leb self.ended 393216) }
+    {
+        self.standing <= 65536 && self.ended <= 393216
     }
-    ended <= 393216
 }
 
 // "not counting any that ended before FROM"
@@ -46,56 +32,45 @@ fn counted_from(from: u64, line: u64, before: usize, after: usize) -> usize
     if line < from { before } else { after }
 }
 
-// The grounds after a line that may have begun or ended some.
+// The grounds after a line that may have begun or ended some, if there is room for them.
 fn changed(
     q: Inquiry,
     deed: Deed,
     state: Coordinator,
     before: Grounds,
-    reply: &mut [u8],
-    standing: &mut [u8],
+    reply: &mut [u8; 65536],
+    standing: &mut [u8; 65536],
     next: &mut [u8],
-    ended: &mut [u8],
-) -> Followed
-    requires reply_len { (length reply.old ≡ 65536) × (length standing.old ≡ 65536) × (65536 ≤ length next.old) × (length ended.old ≡ 393216) }
+    ended: &mut [u8; 393216],
+) -> Option<Grounds>
+    requires room { 65536 ≤ length next.old }
     requires within_2 { Within before }
-    ensures within { Within result.grounds }
-    ensures fits { result.fits ≡ fits (changed_by q deed state (kept_in before standing.old ended.old)) }
-    ensures kept { result.fits ≡ true → kept_in result.grounds standing.new ended.new ≡ changed_by q deed state (kept_in before standing.old ended.old) }
+    ensures within { IfSome result (λ g. Within g) }
+    ensures fits { is_some result ≡ fits (changed_by q deed state (kept_in before standing.old ended.old)) }
+    ensures kept { IfSome result (λ g. kept_in g standing.new ended.new ≡ changed_by q deed state (kept_in before standing.old ended.old)) }
 {
-    let was = before.standing;
-    let used = before.ended;
     let tracked = ledger::track(
         state,
-        q.unit,
+        q,
         deed,
-        q.to,
         reply,
-        &standing[..was],
+        &standing[..before.standing],
         next,
         ended,
-        used,
+        before.ended,
     );
-    let stands = tracked.standing;
-    let past = counted_from(q.from, deed.line, used, tracked.ended);
-    if !fits(stands, past) {
-        return Followed {
-            grounds: before,
-            fits: false,
-        };
+    let after = Grounds {
+        ended: counted_from(q.from, deed.line, before.ended, tracked.ended),
+        ..tracked
+    };
+    if !after.fits() {
+        return None;
     }
-    let limit = standing.len();
-    wire::put_bytes(standing, 0, limit, &next[..stands]);
-    Followed {
-        grounds: Grounds {
-            standing: stands,
-            ended: past,
-        },
-        fits: true,
-    }
+    standing[..after.standing].copy_from_slice(&next[..after.standing]);
+    Some(after)
 }
 
-// The grounds after a line. What is no setup, command or link event begins and ends none.
+// The grounds after a line, if there is room for them. What is no setup, command or link event begins and ends none.
 pub fn follow(
     q: Inquiry,
     number: u64,
@@ -104,29 +79,20 @@ pub fn follow(
     before: Grounds,
     first: &mut [u8],
     second: &mut [u8],
-    reply: &mut [u8],
-    standing: &mut [u8],
+    reply: &mut [u8; 65536],
+    standing: &mut [u8; 65536],
     next: &mut [u8],
-    ended: &mut [u8],
-) -> Followed
+    ended: &mut [u8; 393216],
+) -> Option<Grounds>
     requires in_bounds { (131072 ≤ length first.old) × (131072 ≤ length second.old) }
-    requires reply_len { (length reply.old ≡ 65536) × (length standing.old ≡ 65536) × (65536 ≤ length next.old) × (length ended.old ≡ 393216) }
+    requires room { 65536 ≤ length next.old }
     requires within_2 { Within before }
-    ensures within { Within result.grounds }
-    ensures fits { result.fits ≡ fits (followed q number (read_line line.now) state (kept_in before standing.old ended.old)) }
-    ensures kept { result.fits ≡ true → kept_in result.grounds standing.new ended.new ≡ followed q number (read_line line.now) state (kept_in before standing.old ended.old) }
+    ensures within { IfSome result (λ g. Within g) }
+    ensures fits { is_some result ≡ fits (followed q number (read_line line.now) state (kept_in before standing.old ended.old)) }
+    ensures kept { IfSome result (λ g. kept_in g standing.new ended.new ≡ followed q number (read_line line.now) state (kept_in before standing.old ended.old)) }
 {
-    let done = deeds::done_by(line, first, second);
-    if !done.counts {
-        return Followed {
-            grounds: before,
-            fits: true,
-        };
+    match deeds::done_by(number, line, first, second) {
+        Some(deed) => changed(q, deed, state, before, reply, standing, next, ended),
+        None => Some(before),
     }
-    let deed = Deed {
-        what: done.what,
-        by: done.by,
-        line: number,
-    };
-    changed(q, deed, state, before, reply, standing, next, ended)
 }

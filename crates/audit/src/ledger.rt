@@ -1,10 +1,11 @@
 // The grounds of a unit, followed from statement to statement. What stands after a line is the reach list after that line.
-ghost use Rattle.std.specs.Prelude.{◌≡◌, ◌+◌, ◌≤◌, length, take, drop};
-ghost use Rattle.lists.specs.Lists.{place_of};
+ghost use Rattle.std.specs.Prelude.{◌≡◌, ◌+◌, ◌≤◌, length, take, drop, option_map};
+ghost use Rattle.lists.specs.Lists.{any, find};
 ghost use Rattle.wire.specs.Write.{Wrote};
 ghost use Rattle.paper.specs.Outcomes.{decide_reach, buffer_after};
 ghost use Rattle.audit.specs.Ledger.{deed_bytes, runs_of, same_row, held_over, stands_by, stands_after, ends_by, ends_after, rows_after, forgotten};
 
+use crate::following::Inquiry;
 use coordinator::questions;
 use paper::state::Coordinator;
 
@@ -18,35 +19,39 @@ pub struct Deed {
 
 // How many bytes the grounds that stand and those that ended take.
 #[derive(Clone, Copy)]
-pub struct Tracked {
+pub struct Grounds {
     pub standing: usize,
     pub ended: usize,
 }
 
 fn put_deed(buf: &mut [u8], at: usize, limit: usize, deed: Deed) -> usize
     requires { at + 10 ≤ 4294967296 }
-    ensures { Wrote limit at (deed_bytes deed.what deed.by deed.line) buf.old result buf.new }
+    ensures { Wrote limit at (deed_bytes deed) buf.old result buf.new }
 {
     let what = wire::put(buf, at, limit, deed.what);
     let by = wire::put(buf, what, limit, deed.by);
     wire::put_be64(buf, by, limit, deed.line)
 }
 
-// The place of the first run of 4 bytes or more that begins with a row, or how many runs there are.
-fn place_of(runs: &[u8], size: usize, row: &[u8]) -> usize
-    requires { 4 ≤ size }
-    ensures { result ≡ place_of (same_row row.now) (runs_of size runs.now) }
+// Whether a ground or a row begins with a row.
+fn same_row(row: &[u8], e: &[u8]) -> bool
+    ensures { result ≡ same_row row.now e.now }
 {
-    let n = runs.len() / size;
-    let mut k = 0;
-    while k < n {
-        let from = k * size;
-        if wire::same(&runs[from..], row, 4) {
-            return k;
-        }
-        k += 1;
-    }
-    n
+    wire::same(e, row, 4)
+}
+
+// The first ground that begins with a row.
+fn held<'a>(standing: &'a [u8], row: &[u8]) -> Option<&'a [u8]>
+    ensures { option_map (λ e. e.now) result ≡ find (same_row row.now) (runs_of 14 standing.now) }
+{
+    standing.chunks_exact(14).find(|e| same_row(row, e))
+}
+
+// Whether a ground is among the rows.
+fn is_among(rows: &[u8], e: &[u8]) -> bool
+    ensures { result ≡ any (same_row e.now) (runs_of 4 rows.now) }
+{
+    rows.chunks_exact(4).any(|row| same_row(e, row))
 }
 
 // "what stood before keeps what it began with"
@@ -59,18 +64,19 @@ fn put_held_over(
     deed: Deed,
 ) -> usize
     requires { (length row.now ≡ 4) × (at + 14 ≤ 4294967296) }
-    ensures { Wrote limit at (held_over (runs_of 14 standing.now) (deed_bytes deed.what deed.by deed.line) row.now) next.old result next.new }
+    ensures { Wrote limit at (held_over (runs_of 14 standing.now) (deed_bytes deed) row.now) next.old result next.new }
 {
-    let k = place_of(standing, 14, row);
-    if k < standing.len() / 14 {
-        let from = k * 14;
-        return wire::put_bytes(next, at, limit, &standing[from..from + 14]);
+    match held(standing, row) {
+        Some(e) => wire::put_bytes(next, at, limit, e),
+        None => {
+            let begun = wire::put_bytes(next, at, limit, row);
+            put_deed(next, begun, limit, deed)
+        }
     }
-    let begun = wire::put_bytes(next, at, limit, row);
-    put_deed(next, begun, limit, deed)
 }
 
 // The same for a row of any unit: nothing, if it is not of the unit.
+#[tactic(auto, using(wire::proofs::Writing::wrote_none), unfolding(crate::specs::Ledger::stands_by))]
 fn put_stand(
     next: &mut [u8],
     at: usize,
@@ -81,33 +87,30 @@ fn put_stand(
     deed: Deed,
 ) -> usize
     requires { (length row.now ≡ 4) × (at + 14 ≤ 4294967296) }
-    ensures { Wrote limit at (stands_by unit (runs_of 14 standing.now) (deed_bytes deed.what deed.by deed.line) row.now) next.old result next.new }
+    ensures { Wrote limit at (stands_by unit (runs_of 14 standing.now) (deed_bytes deed) row.now) next.old result next.new }
 {
     if row[2] == unit {
-        return put_held_over(next, at, limit, standing, row, deed);
+        put_held_over(next, at, limit, standing, row, deed)
+    } else {
+        at
     }
-    at
 }
 
 // The grounds of the unit that stand after a line.
 fn put_stands(next: &mut [u8], unit: u8, standing: &[u8], rows: &[u8], deed: Deed) -> usize
     requires { length rows.now ≤ 65536 }
-    ensures { Wrote (length next.old) 0 (stands_after unit standing.now rows.now (deed_bytes deed.what deed.by deed.line)) next.old result next.new }
+    ensures { Wrote (length next.old) 0 (stands_after unit standing.now rows.now (deed_bytes deed)) next.old result next.new }
 {
     let limit = next.len();
-    let n = rows.len() / 4;
     let mut at = 0;
-    let mut k = 0;
-    while k < n {
-        let from = k * 4;
-        let row = &rows[from..from + 4];
+    for row in rows.chunks_exact(4) {
         at = put_stand(next, at, limit, unit, standing, row, deed);
-        k += 1;
     }
     at
 }
 
 // "It ends at a later line if it does not stand after that line"
+#[tactic(auto, using(wire::proofs::Writing::wrote_none), unfolding(crate::specs::Ledger::ends_by))]
 fn put_end(
     ended: &mut [u8],
     at: usize,
@@ -118,12 +121,9 @@ fn put_end(
     to: u64,
 ) -> usize
     requires { (length e.now ≡ 14) × (at + 24 ≤ 4294967296) }
-    ensures { Wrote limit at (ends_by (runs_of 4 rows.now) (deed_bytes deed.what deed.by deed.line) to e.now) ended.old result ended.new }
+    ensures { Wrote limit at (ends_by (runs_of 4 rows.now) (deed_bytes deed) to e.now) ended.old result ended.new }
 {
-    if place_of(rows, 4, e) < rows.len() / 4 {
-        return at;
-    }
-    if to < wire::be64(e, 6) {
+    if is_among(rows, e) || to < wire::be64(e, 6) {
         return at;
     }
     let begun = wire::put_bytes(ended, at, limit, e);
@@ -139,17 +139,12 @@ fn put_ends(
     to: u64,
 ) -> usize
     requires { (used ≤ 1048576) × (length standing.now ≤ 1048576) }
-    ensures { Wrote (length ended.old) used (ends_after standing.now rows.now (deed_bytes deed.what deed.by deed.line) to) ended.old result ended.new }
+    ensures { Wrote (length ended.old) used (ends_after standing.now rows.now (deed_bytes deed) to) ended.old result ended.new }
 {
     let limit = ended.len();
-    let n = standing.len() / 14;
     let mut at = used;
-    let mut k = 0;
-    while k < n {
-        let from = k * 14;
-        let e = &standing[from..from + 14];
+    for e in standing.chunks_exact(14) {
         at = put_end(ended, at, limit, e, rows, deed, to);
-        k += 1;
     }
     at
 }
@@ -160,44 +155,41 @@ fn rows_in(reply: &[u8], delivered: usize) -> &[u8]
     ensures { result.now ≡ drop 8 (take delivered reply.now) }
 {
     if delivered < 8 {
-        return &reply[..0];
+        &[]
+    } else {
+        &reply[8..delivered]
     }
-    &reply[8..delivered]
 }
 
 // "All before it is forgotten", if the line is a setup.
 fn unless_setup(what: u8, bytes: &[u8]) -> &[u8]
     ensures { result.now ≡ forgotten what bytes.now }
 {
-    if what == 0xFF {
-        return &bytes[..0];
-    }
-    bytes
+    if what == 0xFF { &[] } else { bytes }
 }
 
 // The grounds after a line, whose statement made the coordinator what it is: those of the unit that stand, and those that ended behind the others. "All before a setup is forgotten": then every ground ends, and what stands begins with it.
 pub fn track(
     c: Coordinator,
-    unit: u8,
+    q: Inquiry,
     deed: Deed,
-    to: u64,
-    reply: &mut [u8],
+    reply: &mut [u8; 65536],
     standing: &[u8],
     next: &mut [u8],
     ended: &mut [u8],
     used: usize,
-) -> Tracked
-    requires { (length reply.old ≡ 65536) × (length standing.now ≤ 1048576) × (used ≤ 1048576) }
-    ensures stands { Wrote (length next.old) 0 (stands_after unit (forgotten deed.what standing.now) (rows_after c) (deed_bytes deed.what deed.by deed.line)) next.old result.standing next.new }
-    ensures ends { Wrote (length ended.old) used (ends_after standing.now (forgotten deed.what (rows_after c)) (deed_bytes deed.what deed.by deed.line) to) ended.old result.ended ended.new }
+) -> Grounds
+    requires { (length standing.now ≤ 1048576) × (used ≤ 1048576) }
+    ensures stands { Wrote (length next.old) 0 (stands_after q.unit (forgotten deed.what standing.now) (rows_after c) (deed_bytes deed)) next.old result.standing next.new }
+    ensures ends { Wrote (length ended.old) used (ends_after standing.now (forgotten deed.what (rows_after c)) (deed_bytes deed) q.to) ended.old result.ended ended.new }
     ensures reply { reply.new ≡ buffer_after (decide_reach c 65536) reply.old }
 {
     let outcome = questions::reach(c, reply);
     let rows = rows_in(reply, outcome.delivered);
     let before = unless_setup(deed.what, standing);
     let after = unless_setup(deed.what, rows);
-    Tracked {
-        standing: put_stands(next, unit, before, rows, deed),
-        ended: put_ends(ended, used, standing, after, deed, to),
+    Grounds {
+        standing: put_stands(next, q.unit, before, rows, deed),
+        ended: put_ends(ended, used, standing, after, deed, q.to),
     }
 }

@@ -1,124 +1,132 @@
 // The first line of an audit, and its answer.
-ghost use Rattle.std.specs.Prelude.{◌≡◌, ◌+◌, ◌≤◌, length, take};
+ghost use Rattle.std.specs.Prelude.{◌≡◌, ℕ, ◌+◌, ◌<◌, ◌≤◌, List, [], ◌∷◌, ◌++◌, length, take};
 ghost use Rattle.lists.specs.Lists.{any, keep, below};
 ghost use Rattle.wire.specs.Write.{Wrote};
 ghost use Rattle.audit.specs.Ledger.{runs_of};
 ghost use Rattle.audit.specs.Sentence.{is_of, grounds_of, belongs, before, joined, named, openers, could_part, pending_text, wait_part, answer_text, place_text, past_text, unit_part, lines_part, first_text};
 
-use crate::cells;
-use crate::cells::Asked;
+use crate::cells::{Asked, Audited};
 use journal::printing;
+use std::marker::Model;
 
-// Initiators, in ascending order.
-#[derive(Clone, Copy)]
-pub struct Names {
-    pub items: [u8; 16],
-    pub count: usize,
+// Initiators, in ascending order: 16 at most.
+// Stays: there is no heap, and how many there are is known before the first is written.
+#[derive(Drop)]
+struct Names {
+    items: [u8; 16],
+    count: usize,
+}
+
+impl Model for Names {
+    ghost Value = { List ℕ };
+
+    ghost view = { λ s. take s.count s.items };
+
+    ghost invariant = { λ s. s.count ≤ 16 };
+}
+
+impl Names {
+    fn new() -> Names
+        ensures { result ≡ [] }
+    {
+        Names {
+            items: [0; 16],
+            count: 0,
+        }
+    }
+
+    fn push(&mut self, i: u8)
+        requires { length self.old < 16 }
+        ensures { self.new ≡ self.old ++ (i ∷ []) }
+    {
+        self.items[self.count] = i;
+        self.count += 1;
+    }
+
+    fn as_slice(&self) -> &[u8]
+        ensures names { result.now ≡ self.now }
+        ensures few { length self.now ≤ 16 }
+    {
+        &self.items[..self.count]
+    }
 }
 
 // Whether a ground shown is an initiator's, pending or not.
+#[tactic(auto, unfolding(crate::specs::Sentence::is_of))]
 fn is_of(a: Asked, i: u8, waits: bool, e: &[u8]) -> bool
     ensures { result ≡ is_of a i waits e.now }
 {
-    if !cells::is_shown(a, e) {
-        return false;
-    }
-    if wire::byte(e, 0) != i {
-        return false;
-    }
-    if wire::byte(e, 3) == b'W' {
-        waits
-    } else {
-        !waits
-    }
+    a.is_shown(e) && wire::byte(e, 0) == i && (wire::byte(e, 3) == b'W') == waits
 }
 
 fn some_of(a: Asked, i: u8, waits: bool, runs: &[u8], size: usize) -> bool
     requires { 1 ≤ size }
     ensures { result ≡ any (is_of a i waits) (runs_of size runs.now) }
 {
-    let n = runs.len() / size;
-    let mut k = 0;
-    while k < n {
-        let from = k * size;
-        if is_of(a, i, waits, &runs[from..from + size]) {
-            return true;
+    runs.chunks_exact(size).any(|e| is_of(a, i, waits, e))
+}
+
+impl Audited<'_> {
+    // Whether the initiator has a ground shown, pending or not.
+    fn has_ground(&self, i: u8, waits: bool) -> bool
+        ensures { result ≡ any (is_of self.now.asked i waits) (grounds_of self.now.ended.now self.now.standing.now) }
+    {
+        some_of(self.asked, i, waits, self.ended, 24)
+            || some_of(self.asked, i, waits, self.standing, 14)
+    }
+
+    // Whether the initiator is named: as one that could open the unit, or as one that was pending and could not.
+    #[tactic(auto, unfolding(crate::specs::Sentence::belongs))]
+    fn belongs(&self, i: u8, waits: bool) -> bool
+        ensures { result ≡ belongs self.now.asked (grounds_of self.now.ended.now self.now.standing.now) waits i }
+    {
+        let could = self.has_ground(i, false);
+        if waits {
+            !could && self.has_ground(i, true)
+        } else {
+            could
         }
-        k += 1;
     }
-    false
-}
 
-// Whether the initiator has a ground shown, pending or not.
-fn has_ground(a: Asked, i: u8, waits: bool, ended: &[u8], standing: &[u8]) -> bool
-    ensures { result ≡ any (is_of a i waits) (grounds_of ended.now standing.now) }
-{
-    if some_of(a, i, waits, ended, 24) {
-        return true;
-    }
-    some_of(a, i, waits, standing, 14)
-}
-
-// Whether the initiator is named: as one that could open the unit, or as one that was pending and could not.
-fn belongs(a: Asked, i: u8, waits: bool, ended: &[u8], standing: &[u8]) -> bool
-    ensures { result ≡ belongs a (grounds_of ended.now standing.now) waits i }
-{
-    let could = has_ground(a, i, false, ended, standing);
-    if !waits {
-        return could;
-    }
-    if could {
-        return false;
-    }
-    has_ground(a, i, true, ended, standing)
-}
-
-fn names_of(a: Asked, waits: bool, ended: &[u8], standing: &[u8]) -> Names
-    ensures { (length result.items ≡ 16) × (result.count ≤ 16) × (take result.count result.items ≡ keep (belongs a (grounds_of ended.now standing.now) waits) (below 16)) }
-{
-    let mut items = [0; 16];
-    let mut count = 0;
-    let mut i = 0;
-    while i < 16 {
-        if belongs(a, i, waits, ended, standing) {
-            items[count] = i;
-            count += 1;
+    fn names(&self, waits: bool) -> Names
+        ensures { result ≡ keep (belongs self.now.asked (grounds_of self.now.ended.now self.now.standing.now) waits) (below 16) }
+    {
+        let mut names = Names::new();
+        for i in 0..16 {
+            if self.belongs(i, waits) {
+                names.push(i);
+            }
         }
-        i += 1;
-    }
-    Names {
-        items: items,
-        count: count,
+        names
     }
 }
 
 // What comes before a name: nothing before the first, "and" before the last.
+#[tactic(auto, using(wire::proofs::Writing::wrote_none), unfolding(crate::specs::Sentence::before))]
 fn put_before(text: &mut [u8], at: usize, limit: usize, k: usize, n: usize) -> usize
     requires { (at + 5 ≤ 4294967296) × (k ≤ 16) }
     ensures { Wrote limit at (before k n) text.old result text.new }
 {
     if k == 0 {
-        return at;
+        at
+    } else if k + 1 == n {
+        wire::put_bytes(text, at, limit, b" and ")
+    } else {
+        wire::put_bytes(text, at, limit, b", ")
     }
-    if k + 1 == n {
-        return wire::put_bytes(text, at, limit, b" and ");
-    }
-    wire::put_bytes(text, at, limit, b", ")
 }
 
 // "Initiators 0, 1 and 3"
+#[tactic(auto, using(crate::proofs::Sentences::sizes))]
 fn put_joined(text: &mut [u8], at: usize, limit: usize, names: &[u8]) -> usize
     requires { (at + 400 ≤ 4294967296) × (length names.now ≤ 16) }
     ensures { Wrote limit at (joined names.now) text.old result text.new }
 {
     let n = names.len();
     let mut to = at;
-    let mut k = 0;
-    while k < n {
-        let name = wire::byte(names, k);
+    for (k, name) in names.iter().enumerate() {
         let next = put_before(text, to, limit, k, n);
-        to = printing::put_decimal(text, next, limit, name as u64);
-        k += 1;
+        to = printing::put_decimal(text, next, limit, *name as u64);
     }
     to
 }
@@ -136,16 +144,19 @@ fn put_named(text: &mut [u8], at: usize, limit: usize, names: &[u8]) -> usize
 }
 
 // Those that could open the unit, or nobody.
+#[tactic(auto, unfolding(crate::specs::Sentence::openers))]
 fn put_openers(text: &mut [u8], at: usize, limit: usize, names: &[u8]) -> usize
     requires { (at + 411 ≤ 4294967296) × (length names.now ≤ 16) }
     ensures { Wrote limit at (openers names.now) text.old result text.new }
 {
-    if names.len() == 0 {
-        return wire::put_bytes(text, at, limit, b"No initiator");
+    if names.is_empty() {
+        wire::put_bytes(text, at, limit, b"No initiator")
+    } else {
+        put_named(text, at, limit, names)
     }
-    put_named(text, at, limit, names)
 }
 
+#[tactic(auto, using(crate::proofs::Sentences::sizes))]
 fn put_could(text: &mut [u8], at: usize, limit: usize, unit: u8, names: &[u8]) -> usize
     requires { (at + 500 ≤ 4294967296) × (length names.now ≤ 16) }
     ensures { Wrote limit at (could_part unit names.now) text.old result text.new }
@@ -157,22 +168,25 @@ fn put_could(text: &mut [u8], at: usize, limit: usize, unit: u8, names: &[u8]) -
 }
 
 // That so many were pending.
+#[tactic(auto, unfolding(crate::specs::Sentence::pending_text))]
 fn put_pending(text: &mut [u8], at: usize, limit: usize, n: usize) -> usize
     requires { at + 30 ≤ 4294967296 }
     ensures { Wrote limit at (pending_text n) text.old result text.new }
 {
     if n == 1 {
-        return wire::put_bytes(text, at, limit, b" was pending: it could not.");
+        wire::put_bytes(text, at, limit, b" was pending: it could not.")
+    } else {
+        wire::put_bytes(text, at, limit, b" were pending: they could not.")
     }
-    wire::put_bytes(text, at, limit, b" were pending: they could not.")
 }
 
 // Those that were pending and could not open the unit, if there are any.
+#[tactic(auto, using(crate::proofs::Sentences::sizes))]
 fn put_waits(text: &mut [u8], at: usize, limit: usize, names: &[u8]) -> usize
     requires { (at + 500 ≤ 4294967296) × (length names.now ≤ 16) }
     ensures { Wrote limit at (wait_part names.now) text.old result text.new }
 {
-    if names.len() == 0 {
+    if names.is_empty() {
         return at;
     }
     let space = wire::put(text, at, limit, b' ');
@@ -181,32 +195,36 @@ fn put_waits(text: &mut [u8], at: usize, limit: usize, names: &[u8]) -> usize
 }
 
 // The answer in one sentence, or two.
-pub fn put_answer(text: &mut [u8], a: Asked, unit: u8, ended: &[u8], standing: &[u8]) -> usize
-    ensures { Wrote (length text.old) 0 (answer_text a unit (grounds_of ended.now standing.now)) text.old result text.new }
+#[tactic(auto, using(crate::proofs::Sentences::sizes))]
+pub fn put_answer(text: &mut [u8], unit: u8, audited: &Audited) -> usize
+    ensures text { Wrote (length text.old) 0 (answer_text audited.now.asked unit (grounds_of audited.now.ended.now audited.now.standing.now)) text.old result text.new }
+    ensures size { result ≤ 907 }
 {
     let limit = text.len();
-    let could = names_of(a, false, ended, standing);
-    let openers = could.items;
-    let first = put_could(text, 0, limit, unit, &openers[..could.count]);
-    let waited = names_of(a, true, ended, standing);
-    let pending = waited.items;
-    let told = put_waits(text, first, limit, &pending[..waited.count]);
+    let could = audited.names(false);
+    let first = put_could(text, 0, limit, unit, could.as_slice());
+    let waited = audited.names(true);
+    let told = put_waits(text, first, limit, waited.as_slice());
     wire::put(text, told, limit, b'\n')
 }
 
 // "its default LUN on the shelf as it is after the last line"
-fn put_place(text: &mut [u8], at: usize, limit: usize, there: bool, nn: u8) -> usize
+#[tactic(auto, unfolding(crate::specs::Sentence::place_text))]
+fn put_place(text: &mut [u8], at: usize, limit: usize, place: Option<u8>) -> usize
     requires { at + 29 ≤ 4294967296 }
-    ensures { Wrote limit at (place_text there nn) text.old result text.new }
+    ensures { Wrote limit at (place_text place) text.old result text.new }
 {
-    if !there {
-        return wire::put_bytes(text, at, limit, b" (not on the shelf at the end");
+    match place {
+        Some(nn) => {
+            let told = wire::put_bytes(text, at, limit, b" (default LUN ");
+            printing::put_pair(text, told, limit, nn)
+        }
+        None => wire::put_bytes(text, at, limit, b" (not on the shelf at the end"),
     }
-    let told = wire::put_bytes(text, at, limit, b" (default LUN ");
-    printing::put_pair(text, told, limit, nn)
 }
 
 // Where the journal ends, if that is before the last line asked for.
+#[tactic(auto, using(crate::proofs::Sentences::sizes))]
 fn put_past(text: &mut [u8], at: usize, limit: usize, a: Asked) -> usize
     requires { at + 48 ≤ 4294967296 }
     ensures { Wrote limit at (past_text a) text.old result text.new }
@@ -220,16 +238,18 @@ fn put_past(text: &mut [u8], at: usize, limit: usize, a: Asked) -> usize
 }
 
 // The unit, and its place.
-fn put_unit(text: &mut [u8], at: usize, limit: usize, unit: u8, there: bool, nn: u8) -> usize
+#[tactic(auto, using(crate::proofs::Sentences::sizes))]
+fn put_unit(text: &mut [u8], at: usize, limit: usize, unit: u8, place: Option<u8>) -> usize
     requires { at + 54 ≤ 4294967296 }
-    ensures { Wrote limit at (unit_part unit there nn) text.old result text.new }
+    ensures { Wrote limit at (unit_part unit place) text.old result text.new }
 {
     let word = wire::put_bytes(text, at, limit, b"unit ");
     let number = printing::put_decimal(text, word, limit, unit as u64);
-    put_place(text, number, limit, there, nn)
+    put_place(text, number, limit, place)
 }
 
 // The lines asked for.
+#[tactic(auto, using(crate::proofs::Sentences::sizes))]
 fn put_lines(text: &mut [u8], at: usize, limit: usize, a: Asked) -> usize
     requires { at + 109 ≤ 4294967296 }
     ensures { Wrote limit at (lines_part a) text.old result text.new }
@@ -242,11 +262,13 @@ fn put_lines(text: &mut [u8], at: usize, limit: usize, a: Asked) -> usize
 }
 
 // The unit, its place, and the lines asked for.
-pub fn put_first(text: &mut [u8], a: Asked, unit: u8, there: bool, nn: u8) -> usize
-    ensures { Wrote (length text.old) 0 (first_text a unit there nn) text.old result text.new }
+#[tactic(auto, using(crate::proofs::Sentences::sizes))]
+pub fn put_first(text: &mut [u8], a: Asked, unit: u8, place: Option<u8>) -> usize
+    ensures text { Wrote (length text.old) 0 (first_text a unit place) text.old result text.new }
+    ensures size { result ≤ 164 }
 {
     let limit = text.len();
-    let named = put_unit(text, 0, limit, unit, there, nn);
+    let named = put_unit(text, 0, limit, unit, place);
     let told = put_lines(text, named, limit, a);
     wire::put(text, told, limit, b'\n')
 }

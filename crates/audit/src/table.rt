@@ -5,9 +5,10 @@ ghost use Rattle.audit.specs.Ledger.{runs_of};
 ghost use Rattle.audit.specs.Cells.{fill_text, row_text, widened, widest, column_widths};
 
 use crate::cells;
-use crate::cells::Asked;
+use crate::cells::{Asked, Audited};
 
 // What comes between a cell of a size and the next: a tab, or spaces up to the width of the column and two more.
+#[tactic(auto, unfolding(crate::specs::Cells::fill_text))]
 fn put_fill(text: &mut [u8], at: usize, limit: usize, tsv: bool, size: usize, width: u8) -> usize
     requires { at + 257 ≤ 4294967296 }
     ensures { Wrote limit at (fill_text tsv width size) text.old result text.new }
@@ -17,40 +18,39 @@ fn put_fill(text: &mut [u8], at: usize, limit: usize, tsv: bool, size: usize, wi
     }
     let end = width as usize + 2;
     let mut to = at;
-    let mut k = size;
-    while k < end {
+    for k in size..end {
         to = wire::put(text, to, limit, b' ');
-        k += 1;
     }
     to
 }
 
 // A line of the table; the headings, where there is no ground.
+#[tactic(auto, using(crate::proofs::CellSizes::sizes))]
 pub fn put_row(text: &mut [u8], a: Asked, tsv: bool, widths: &[u8], e: &[u8]) -> usize
-    ensures { Wrote (length text.old) 0 (row_text a tsv widths.now e.now) text.old result text.new }
+    ensures text { Wrote (length text.old) 0 (row_text a tsv widths.now e.now) text.old result text.new }
+    ensures size { result ≤ 2061 }
 {
     let limit = text.len();
     let mut at = 0;
-    let mut k = 0;
-    while k < 6 {
+    for k in 0..6 {
         let end = cells::put_line_cell(text, at, limit, a, k, e);
         at = put_fill(text, end, limit, tsv, end - at, wire::byte(widths, k));
-        k += 1;
     }
     let last = cells::put_line_cell(text, at, limit, a, 6, e);
     wire::put(text, last, limit, b'\n')
 }
 
 // The width of a column that has room for the cell of one more ground, if that is shown. The text buffer is lent to write the cell into.
+#[tactic(auto, using(crate::proofs::CellSizes::cell_most), unfolding(crate::specs::Cells::widened))]
 fn widened(text: &mut [u8], a: Asked, column: usize, e: &[u8], width: u8) -> u8
     ensures { result ≡ widened a column e.now width }
 {
-    if !cells::is_shown(a, e) {
+    if !a.is_shown(e) {
         return width;
     }
     let limit = text.len();
     let size = cells::put_cell(text, 0, limit, a, column, e) as u8;
-    if width < size { size } else { width }
+    width.max(size)
 }
 
 // The width of a column that has room for the cells of more grounds.
@@ -58,37 +58,26 @@ fn widen(text: &mut [u8], a: Asked, column: usize, runs: &[u8], size: usize, wid
     requires { 1 ≤ size }
     ensures { result ≡ widest a column (runs_of size runs.now) width }
 {
-    let n = runs.len() / size;
     let mut wide = width;
-    let mut k = 0;
-    while k < n {
-        let from = k * size;
-        wide = widened(text, a, column, &runs[from..from + size], wide);
-        k += 1;
+    for e in runs.chunks_exact(size) {
+        wide = widened(text, a, column, e, wide);
     }
     wide
 }
 
 // "A column is as wide as its heading or its widest cell."
-pub fn put_widths(
-    widths: &mut [u8],
-    text: &mut [u8],
-    a: Asked,
-    ended: &[u8],
-    standing: &[u8],
-) -> usize
-    ensures { Wrote (length widths.old) 0 (column_widths a (runs_of 24 ended.now) (runs_of 14 standing.now)) widths.old result widths.new }
+#[tactic(auto, using(crate::proofs::CellSizes::sizes))]
+pub fn put_widths(widths: &mut [u8], text: &mut [u8], audited: &Audited) -> usize
+    ensures { Wrote (length widths.old) 0 (column_widths audited.now.asked (runs_of 24 audited.now.ended.now) (runs_of 14 audited.now.standing.now)) widths.old result widths.new }
 {
     let limit = widths.len();
     let most = text.len();
     let mut at = 0;
-    let mut k = 0;
-    while k < 6 {
+    for k in 0..6 {
         let head = cells::put_head(text, 0, most, k) as u8;
-        let first = widen(text, a, k, ended, 24, head);
-        let wide = widen(text, a, k, standing, 14, first);
+        let first = widen(text, audited.asked, k, audited.ended, 24, head);
+        let wide = widen(text, audited.asked, k, audited.standing, 14, first);
         at = wire::put(widths, at, limit, wide);
-        k += 1;
     }
     at
 }

@@ -19,8 +19,7 @@ pub struct Operands {
 }
 
 fn of_opening(o: Opening) -> Answer {
-    let opened = o.opened;
-    answers::answer_of(opened)
+    answers::answer_of(o.opened)
 }
 
 fn of_outcome(o: Outcome) -> Answer {
@@ -29,34 +28,34 @@ fn of_outcome(o: Outcome) -> Answer {
 
 // A call for a state that stands.
 fn called_standing(
-    c: Coordinator,
+    c: &Coordinator,
     letter: u8,
     x: Operands,
     cdb: &[u8],
     list: &[u8],
     reply: &mut [u8],
 ) -> Answer
-    requires { standing c ≡ true }
+    requires { standing c.now ≡ true }
 {
     match letter {
         b'D' => of_outcome(commanding::command_standing(
-            c,
+            *c,
             x.initiator,
             cdb,
             list,
             x.random,
             reply,
         )),
-        b'S' => of_opening(questions::route_standing(c, x.initiator, x.lun)),
-        b'U' => of_outcome(questions::link_event_standing(c, x.initiator)),
-        b'X' => of_outcome(questions::reach_standing(c, reply)),
+        b'U' => of_outcome(questions::link_event_standing(*c, x.initiator)),
+        b'X' => of_outcome(questions::reach_standing(*c, reply)),
         _ => Answer::Good,
     }
 }
 
 // The call that a letter names, where it is known whether the state stands; a call that tests it itself does not look at that.
+// The route question is put here in both forms: it copies no state, and beside calls that do it would be charged with their copies.
 fn called(
-    c: Coordinator,
+    c: &Coordinator,
     stands: bool,
     letter: u8,
     x: Operands,
@@ -64,25 +63,22 @@ fn called(
     list: &[u8],
     reply: &mut [u8],
 ) -> Answer
-    requires { stands ≡ standing c }
+    requires { stands ≡ standing c.now }
 {
     match letter {
-        b'C' => of_outcome(commanding::command(c, x.initiator, cdb, list, x.random, reply)),
-        b'R' => of_opening(questions::route(c, x.initiator, x.lun)),
-        b'V' => of_outcome(questions::link_event(c, x.initiator)),
-        b'W' => of_outcome(questions::reach(c, reply)),
-        _ => {
-            if stands {
-                return called_standing(c, letter, x, cdb, list, reply);
-            }
-            Answer::Refused(Refusal::BadState)
-        }
+        b'C' => of_outcome(commanding::command(*c, x.initiator, cdb, list, x.random, reply)),
+        b'R' => of_opening(questions::route(*c, x.initiator, x.lun)),
+        b'V' => of_outcome(questions::link_event(*c, x.initiator)),
+        b'W' => of_outcome(questions::reach(*c, reply)),
+        b'S' if stands => of_opening(questions::route_standing(*c, x.initiator, x.lun)),
+        _ if stands => called_standing(c, letter, x, cdb, list, reply),
+        _ => Answer::Refused(Refusal::BadState),
     }
 }
 
 // The call so many times: the last answer.
 pub fn repeated(
-    c: Coordinator,
+    c: &Coordinator,
     letter: u8,
     x: Operands,
     cdb: &[u8],
@@ -91,10 +87,8 @@ pub fn repeated(
 ) -> Answer {
     let stands = rules::standing(c);
     let mut answer = Answer::Good;
-    let mut k = 0;
-    while k < x.times {
+    for _ in 0..x.times {
         answer = called(c, stands, letter, x, cdb, list, reply);
-        k += 1;
     }
     answer
 }

@@ -2,7 +2,7 @@
 // The input: eight bytes for the shape, a letter for the rule or the call, the initiator, as eight bytes each the random number and the LUN, and as four how many times; then the CDB, and then the parameter bytes.
 #![tactic(auto)]
 
-ghost use Rattle.std.specs.Prelude.{◌≡◌, length};
+ghost use Rattle.std.specs.Prelude.{length};
 ghost use Rattle.std.specs.Io.{ReadsAtMost};
 
 mod calls;
@@ -15,8 +15,13 @@ use standing::rules;
 use std::io;
 use std::io::Read;
 
+// Room for the longest list of one page, a header and a page of 3,275 descriptors, and for the longest reply.
+const LIST_SIZE: usize = 65560;
+
+const REPLY_SIZE: usize = 65536;
+
 // The answer of the rule that a letter names; another letter names none.
-fn asked(c: Coordinator, rule: u8) -> bool {
+fn asked(c: &Coordinator, rule: u8) -> bool {
     if 16 < c.initiators.count {
         return false;
     }
@@ -39,28 +44,12 @@ fn asked(c: Coordinator, rule: u8) -> bool {
 }
 
 // The last answer of a rule that is asked so many times.
-fn asked_often(c: Coordinator, rule: u8, times: usize) -> bool {
+fn asked_often(c: &Coordinator, rule: u8, times: usize) -> bool {
     let mut kept = true;
-    let mut k = 0;
-    while k < times {
+    for _ in 0..times {
         kept = asked(c, rule);
-        k += 1;
     }
     kept
-}
-
-// Room for the longest list of one page: a header and a page of 3,275 descriptors.
-fn list_buffer() -> [u8; 65560]
-    ensures { 65560 ≡ length result }
-{
-    [0; 65560]
-}
-
-// Room for the longest reply.
-fn reply_buffer() -> [u8; 65536]
-    ensures { 65536 ≡ length result }
-{
-    [0; 65536]
 }
 
 // Reads until the room is full or the input ends: how many bytes.
@@ -81,15 +70,15 @@ fn read_full<I: Read>(input: &mut I, room: &mut [u8]) -> io::Result<usize>
 // Capitals name calls, other letters rules.
 fn answered(
     rt: &impl Print,
-    c: Coordinator,
+    c: &Coordinator,
     head: &[u8; 30],
     cdb: &[u8],
     list: &[u8],
 ) -> io::Result<()> {
     let letter = head[8];
     let times = wire::be32(head, 26) as usize;
-    let mut reply = reply_buffer();
-    if letter < b'A' || b'Z' < letter {
+    let mut reply = [0; REPLY_SIZE];
+    if !letter.is_ascii_uppercase() {
         return said::say_kept(rt, asked_often(c, letter, times));
     }
     let x = Operands {
@@ -103,11 +92,11 @@ fn answered(
 
 fn measured<I: Read>(rt: &impl Print, input: &mut I, head: &[u8; 30]) -> io::Result<()> {
     let mut cdb = [0; 16];
-    let mut list = list_buffer();
+    let mut list = [0; LIST_SIZE];
     read_full(input, &mut cdb)?;
     let n = read_full(input, &mut list)?;
     let c = states::state_of(states::shape_in(head));
-    answered(rt, c, head, &cdb, &list[..n])
+    answered(rt, &c, head, &cdb, &list[..n])
 }
 
 fn main(rt: HostRuntime) -> io::Result<()> {

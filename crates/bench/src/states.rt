@@ -1,11 +1,12 @@
 // The states that are measured, by their shapes. Identifiers differ in the last byte that is compared, and in no other.
 ghost use Rattle.std.specs.Prelude.{◌<◌};
 
+use lists::Table;
 use paper::state::{
-    Ace, Acl, Coordinator, Extent, IdType, Initiators, Luacd, ProxyLun, ProxyLuns, Token, Tokens,
-    Units,
+    Ace, Coordinator, ENROLMENT_SIZE, ENROLMENTS_SIZE, Extent, ID_SIZE, IDS_SIZE, IdType,
+    Initiators, Luacd, ProxyLun, ProxyLuns, Token, Tokens, Units,
 };
-use paper::{setters, state};
+use std::array;
 
 // How much of each table is used. Of the initiators the first ones are enrolled, each under an AccessID of its own.
 // ACEs list so many LUACDs: those of TransportIDs from unit 0 on, those of AccessIDs from unit `upper` on. There are as many proxy LUNs as tokens.
@@ -22,10 +23,10 @@ pub struct Shape {
 }
 
 fn extent_named(letter: u8) -> Extent {
-    if letter == b'E' {
-        return Extent::Everything;
+    match letter {
+        b'E' => Extent::Everything,
+        _ => Extent::Listed,
     }
-    Extent::Listed
 }
 
 // The shape that bytes name: E if each ACE holds everything, another letter if it lists LUACDs; then the numbers.
@@ -46,51 +47,38 @@ pub fn shape_in(b: &[u8]) -> Shape {
 fn luacds(from: u8) -> [Luacd; 16]
     requires { from < 32 }
 {
-    let mut list = [state::no_luacd(); 16];
-    let mut i = 0;
-    while i < 16 {
-        let unit = from + (i as u8);
-        list[i] = Luacd {
+    array::from_fn(|i| {
+        let unit = from + i as u8;
+        Luacd {
             lun: unit as u16,
             unit,
-        };
-        i += 1;
-    }
-    list
+        }
+    })
 }
 
 // The ACE of initiator n's TransportID, with the lower units.
-fn transport_ace(extent: Extent, listed: usize, n: u8) -> Ace {
-    let mut id = [0; 24];
+fn transport_ace(s: Shape, n: u8) -> Ace {
+    let mut id = [0; ID_SIZE];
     id[23] = n;
     Ace {
         kind: IdType::TransportId,
-        extent,
+        extent: s.extent,
         id,
-        count: listed,
+        count: s.listed,
         luacds: luacds(0),
     }
 }
 
-// LUACDs from a unit on, if there is such a unit.
-fn upper_luacds(from: u8) -> [Luacd; 16] {
-    if from < 32 {
-        return luacds(from);
-    }
-    luacds(0)
-}
-
-// The ACE of the AccessID under which initiator n is enrolled.
+// The ACE of the AccessID under which initiator n is enrolled, with the units from `upper` on, if there is such a unit.
 fn access_ace(s: Shape, n: u8) -> Ace {
-    let mut id = [0; 24];
-    let extent = s.extent;
+    let mut id = [0; ID_SIZE];
     id[15] = n;
     Ace {
         kind: IdType::AccessId,
-        extent,
+        extent: s.extent,
         id,
         count: s.listed,
-        luacds: upper_luacds(s.upper),
+        luacds: luacds(if s.upper < 32 { s.upper } else { 0 }),
     }
 }
 
@@ -98,106 +86,76 @@ fn access_ace(s: Shape, n: u8) -> Ace {
 fn ace_at(s: Shape, i: usize) -> Ace
     requires { i < 32 }
 {
-    let extent = s.extent;
     if i < s.initiators {
-        return transport_ace(extent, s.listed, i as u8);
+        transport_ace(s, i as u8)
+    } else {
+        access_ace(s, (i - s.initiators) as u8)
     }
-    access_ace(s, (i - s.initiators) as u8)
 }
 
-fn aces_with(t: Acl, s: Shape, i: usize) -> Acl
+fn token_at(i: usize) -> Token
     requires { i < 32 }
 {
-    let mut next = t;
-    next.items[i] = ace_at(s, i);
-    next.count = s.aces;
-    next
-}
-
-fn units_with(t: Units, s: Shape, i: usize) -> Units
-    requires { i < 32 }
-{
-    let mut next = t;
-    next.luns[i] = i as u16;
-    next.count = s.units;
-    next
-}
-
-fn tokens_with(t: Tokens, s: Shape, i: usize) -> Tokens
-    requires { i < 32 }
-{
-    let mut next = t;
     let n = i as u8;
-    next.items[i] = Token {
-        number: (n as u64) + 1,
+    Token {
+        number: n as u64 + 1,
         unit: n,
         requester: n / 2,
         lun: n as u16,
-    };
-    next.count = s.tokens;
-    next
+    }
 }
 
-fn proxies_with(t: ProxyLuns, s: Shape, i: usize) -> ProxyLuns
+fn proxy_at(i: usize) -> ProxyLun
     requires { i < 32 }
 {
-    let mut next = t;
     let n = i as u8;
-    next.items[i] = ProxyLun {
+    ProxyLun {
         initiator: n / 2,
-        lun: (n as u16) + 64,
-        token: (n as u64) + 1,
-    };
-    next.count = s.tokens;
-    next
-}
-
-// The initiators with initiator i's TransportID, and its enrolment if it has one.
-fn initiators_with(t: Initiators, s: Shape, i: usize) -> Initiators
-    requires { i < 16 }
-{
-    let mut next = t;
-    let n = i as u8;
-    let end = state::ID_SIZE * i + 23;
-    next.ids[end] = n;
-    next.count = s.initiators;
-    if s.enrolled <= i {
-        return next;
+        lun: n as u16 + 64,
+        token: n as u64 + 1,
     }
-    let stage = state::ENROLMENT_SIZE * i;
-    let last = stage + 16;
-    next.enrolments[stage] = 1;
-    next.enrolments[last] = n;
-    next
 }
 
-// The state with the entries at place i.
-fn filled(c: Coordinator, s: Shape, i: usize) -> Coordinator
-    requires { i < 32 }
-{
-    let mut next = c;
-    let units = c.units;
-    next.units = units_with(units, s, i);
-    let tokens = c.tokens;
-    next.tokens = tokens_with(tokens, s, i);
-    let proxies = c.proxies;
-    next.proxies = proxies_with(proxies, s, i);
-    let acl = c.acl;
-    next.acl = aces_with(acl, s, i);
-    if 16 <= i {
-        return next;
+// The TransportIDs, and the enrolments of those that have one.
+fn initiators_of(s: Shape) -> Initiators {
+    let mut ids = [0; IDS_SIZE];
+    let mut enrolments = [0; ENROLMENTS_SIZE];
+    for i in 0..16 {
+        ids[ID_SIZE * i + 23] = i as u8;
+        if i < s.enrolled {
+            enrolments[ENROLMENT_SIZE * i] = 1;
+            enrolments[ENROLMENT_SIZE * i + 16] = i as u8;
+        }
     }
-    let initiators = c.initiators;
-    next.initiators = initiators_with(initiators, s, i);
-    next
+    Initiators {
+        count: s.initiators,
+        ids,
+        enrolments,
+    }
 }
 
+// The state of a shape: every place of the tables is filled, and the counts say how many are used.
 pub fn state_of(s: Shape) -> Coordinator {
-    let mut c = setters::with_switch(state::fresh_coordinator(), true, 1, 7);
-    let mut i = 0;
-    while i < 32 {
-        c = filled(c, s, i);
-        i += 1;
+    Coordinator {
+        enabled: true,
+        generation: 1,
+        key: 7,
+        initiators: initiators_of(s),
+        units: Units {
+            count: s.units,
+            luns: array::from_fn(|i| i as u16),
+        },
+        acl: Table {
+            count: s.aces,
+            items: array::from_fn(|i| ace_at(s, i)),
+        },
+        tokens: Tokens {
+            count: s.tokens,
+            items: array::from_fn(|i| token_at(i)),
+        },
+        proxies: ProxyLuns {
+            count: s.tokens,
+            items: array::from_fn(|i| proxy_at(i)),
+        },
     }
-    c
 }

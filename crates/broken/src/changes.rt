@@ -1,44 +1,43 @@
 // The ways in which a state is changed in one thing.
 use paper::setters;
-use paper::state::{Ace, Coordinator, ENROLMENTS_SIZE, IDS_SIZE, Luacd, ProxyLun, Token};
+use paper::state::{
+    Ace, Coordinator, ENROLMENTS_SIZE, IDS_SIZE, Initiators, Luacd, ProxyLun, ProxyLuns, Token,
+    Tokens, Units,
+};
 
 // Counts, with nothing behind them.
-pub fn initiators_counted(c: Coordinator, n: usize) -> Coordinator {
-    let mut t = c.initiators;
-    t.count = n;
-    setters::with_initiators(c, t)
+pub fn initiators_counted(c: Coordinator, count: usize) -> Coordinator {
+    setters::with_initiators(
+        c,
+        Initiators {
+            count,
+            ..c.initiators
+        },
+    )
 }
 
-pub fn units_counted(c: Coordinator, n: usize) -> Coordinator {
-    let mut t = c.units;
-    t.count = n;
-    setters::with_units(c, t)
+pub fn units_counted(c: Coordinator, count: usize) -> Coordinator {
+    setters::with_units(c, Units { count, ..c.units })
 }
 
-pub fn aces_counted(c: Coordinator, n: usize) -> Coordinator {
+pub fn aces_counted(c: Coordinator, count: usize) -> Coordinator {
     let mut t = c.acl;
-    t.count = n;
+    t.count = count;
     setters::with_acl(c, t)
 }
 
-pub fn luacds_counted(c: Coordinator, n: usize) -> Coordinator {
+pub fn luacds_counted(c: Coordinator, count: usize) -> Coordinator {
     let mut t = c.acl;
-    let mut a = t.items[1];
-    a.count = n;
-    t.items[1] = a;
+    t.items[1].count = count;
     setters::with_acl(c, t)
 }
 
-pub fn tokens_counted(c: Coordinator, n: usize) -> Coordinator {
-    let mut t = c.tokens;
-    t.count = n;
-    setters::with_tokens(c, t)
+pub fn tokens_counted(c: Coordinator, count: usize) -> Coordinator {
+    setters::with_tokens(c, Tokens { count, ..c.tokens })
 }
 
-pub fn proxies_counted(c: Coordinator, n: usize) -> Coordinator {
-    let mut t = c.proxies;
-    t.count = n;
-    setters::with_proxies(c, t)
+pub fn proxies_counted(c: Coordinator, count: usize) -> Coordinator {
+    setters::with_proxies(c, ProxyLuns { count, ..c.proxies })
 }
 
 // One byte of the TransportIDs.
@@ -69,10 +68,8 @@ pub fn last_default(c: Coordinator, lun: u16) -> Coordinator {
 // One ACE more.
 pub fn one_more_ace(c: Coordinator, a: Ace) -> Coordinator {
     let mut t = c.acl;
-    let n = t.count;
-    if n < 32 {
-        t.items[n] = a;
-        t.count = n + 1;
+    if t.count < 32 {
+        t.push(a);
     }
     setters::with_acl(c, t)
 }
@@ -80,19 +77,16 @@ pub fn one_more_ace(c: Coordinator, a: Ace) -> Coordinator {
 // The last LUACD of the list of 16.
 pub fn last_luacd(c: Coordinator, lun: u16, unit: u8) -> Coordinator {
     let mut t = c.acl;
-    let mut a = t.items[1];
-    a.luacds[15] = Luacd { lun, unit };
-    t.items[1] = a;
+    t.items[1].luacds[15] = Luacd { lun, unit };
     setters::with_acl(c, t)
 }
 
 // One token more, or another in the place of the only one.
 pub fn one_more_token(c: Coordinator, x: Token) -> Coordinator {
     let mut t = c.tokens;
-    let n = t.count;
-    if n < 32 {
-        t.items[n] = x;
-        t.count = n + 1;
+    if t.count < 32 {
+        t.items[t.count] = x;
+        t.count += 1;
     }
     setters::with_tokens(c, t)
 }
@@ -111,10 +105,9 @@ pub fn other_token(c: Coordinator, unit: u8, requester: u8, lun: u16) -> Coordin
 // One proxy LUN more, or another in the place of the only one.
 pub fn one_more_proxy(c: Coordinator, x: ProxyLun) -> Coordinator {
     let mut t = c.proxies;
-    let n = t.count;
-    if n < 32 {
-        t.items[n] = x;
-        t.count = n + 1;
+    if t.count < 32 {
+        t.items[t.count] = x;
+        t.count += 1;
     }
     setters::with_proxies(c, t)
 }

@@ -11,7 +11,7 @@ use std::io;
 
 fn say(rt: &impl Print, name: &[u8], c: Coordinator) -> io::Result<()> {
     rt.write_all(name)?;
-    if rules::standing(c) {
+    if rules::standing(&c) {
         println!(rt; ": stands")
     } else {
         println!(rt; ": refused 2")

@@ -51,29 +51,16 @@ pub fn granting_all(kind: IdType, id: [u8; 24]) -> Ace {
 
 // An AccessID's ACE with a list of 16: unit n at LUN 100 + n.
 fn listing_16(id: [u8; 24]) -> Ace {
+    let mut luacds = [state::no_luacd(); 16];
+    for unit in 0..16u8 {
+        luacds[unit as usize] = at(100 + unit as u16, unit);
+    }
     Ace {
         kind: IdType::AccessId,
         extent: Extent::Listed,
         id,
         count: 16,
-        luacds: [
-            at(100, 0),
-            at(101, 1),
-            at(102, 2),
-            at(103, 3),
-            at(104, 4),
-            at(105, 5),
-            at(106, 6),
-            at(107, 7),
-            at(108, 8),
-            at(109, 9),
-            at(110, 10),
-            at(111, 11),
-            at(112, 12),
-            at(113, 13),
-            at(114, 14),
-            at(115, 15),
-        ],
+        luacds,
     }
 }
 
@@ -91,21 +78,19 @@ fn initiators() -> Initiators {
 
 // Seventeen units, each at the LUN of its number.
 fn units() -> Units {
-    Units {
-        count: 17,
-        luns: [
-            0, 1, 2, 3, 4, 5, 6, 7, 8, 9, 10, 11, 12, 13, 14, 15, 16, 0, 0, 0, 0, 0, 0, 0, 0, 0, 0,
-            0, 0, 0, 0, 0,
-        ],
+    let mut luns = [0; 32];
+    for unit in 0..17u16 {
+        luns[unit as usize] = unit;
     }
+    Units { count: 17, luns }
 }
 
 // Everything for initiator 0 by its TransportID, and the list of 16 for the AccessID A1h.
 fn acl() -> Acl {
-    let mut items = [state::no_ace(); 32];
-    items[0] = granting_all(IdType::TransportId, id_of(0, 0));
-    items[1] = listing_16(id_of(0xA1, 0));
-    Acl { count: 2, items }
+    let mut t = state::no_acl();
+    t.push(granting_all(IdType::TransportId, id_of(0, 0)));
+    t.push(listing_16(id_of(0xA1, 0)));
+    t
 }
 
 // A token that initiator 0 got for unit 0.

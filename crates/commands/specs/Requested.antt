@@ -1,5 +1,5 @@
 -- What a REQUEST PROXY TOKEN comes to before a byte is written: a condition, or the unit that the token opens.
-use Rattle.std.specs.Prelude.{ℕ, List, [], ◌∷◌, ◌++◌, cond, length, ltb}
+use Rattle.std.specs.Prelude.{ℕ, List, [], ◌∷◌, ◌++◌, cond, length, ltb, Result, Ok, Err}
 use Rattle.lists.specs.Bytes.{be_bytes, deliver}
 use Rattle.paper.specs.Effects.{issued, tokening}
 use Rattle.paper.specs.Commands.{Verdict, fails, passes, request_tests}
@@ -7,15 +7,14 @@ use Rattle.paper.specs.Outcomes.{Decision, good, judged, in_room, handed_back}
 use Rattle.paper.specs.Tables.{tokens_of, with_tokens}
 use Rattle.paper.specs.declared.state.Token.{Token}
 use Rattle.paper.specs.declared.state.Coordinator.{Coordinator}
+use Rattle.paper.specs.declared.answers.Condition.{Condition}
 use Rattle.paper.specs.declared.answers.Refusal.TheVariants.{ShortBuffer}
 use Rattle.paper.specs.declared.answers.Answer.TheVariants.{Good, Refused}
 use Rattle.paper.specs.declared.outcomes.Outcome.{Outcome}
-use Rattle.commands.specs.declared.tokening.Requested.{Requested}
-use Rattle.commands.specs.declared.tokening.Requested.TheVariants.{Denied, Unit}
 
-abbrev pub requested : Verdict → ℕ → Requested
-requested (fails k) u = Denied k
-requested passes u = Unit u
+abbrev pub requested : Verdict → ℕ → Result ℕ Condition
+requested (fails k) u = Err k
+requested passes u = Ok u
 
 -- the decision, given the size of the lent buffer
 abbrev pub request_decision : Coordinator → ℕ → ℕ → ℕ → ℕ → Decision

@@ -1,11 +1,11 @@
 -- A setup that fills the tables is kept as it is listed, so that the rules may be asked of the tables.
-use Prim.Native.Nat.{ℕ, ◌+◌, ◌*◌, ◌/◌, ◌%◌, ◌≤◌, ◌<◌}
-use mathlib.Core.Path.{◌≡◌, refl, ap, ap₂, sym, ◌∙◌}
+use Prim.Native.Nat.{ℕ, zero, suc, ◌+◌, ◌*◌, ◌/◌, ◌%◌, ◌≤◌, ◌<◌}
+use mathlib.Core.Path.{◌≡◌, refl, ap, sym, ◌∙◌}
 use mathlib.Core.List.{List, [], ◌∷◌, map}
 use mathlib.Core.Bool.{true, false}
 use native.Mathlib.Omega.{arith}
-use native.Mathlib.Nat.{add-zero}
-use lib.ListN.{length, take, drop, get_or, set, replicate, length-map, get_or-map}
+use native.Mathlib.Nat.{add-zero, zero-add}
+use lib.ListN.{length, drop, get_or, replicate, length-map, get_or-map}
 use lib.Seq.{take_all}
 use lib.Dec.{eqb, leb}
 use borrow.Author.Tests.{eqb-true, leb-true, le-leb}
@@ -14,10 +14,21 @@ use Rattle.lists.specs.Bytes.{be}
 use Rattle.lists.proofs.Tests.{split, clashes, and_true}
 use Rattle.lists.proofs.Parts.{length_parts, get_or_parts, gather_parts}
 use Rattle.lists.specs.Tables.{pad}
-use Rattle.lists.proofs.Tables.{Built}
-use Rattle.lists.proofs.Rebuild.{Copied, copy_more}
 use Rattle.lists.proofs.Bytes.{be_drop, be_take, be_out}
 use Rattle.wire.specs.Lun.{head_of, lun_form}
+use lib.ListN.{get_or-eq_default, length-append}
+use lib.Seq.{take_at, drop_at, ext_get_or}
+use mathlib.Core.Path.{subst}
+use mathlib.Core.List.{◌++◌}
+use native.Mathlib.Decide.{dec_lt}
+use denote.Param.Members.{Mut}
+use Rattle.std.specs.Fn.{Called}
+use Rattle.std.specs.Array.{IsFromFnResult, IsFromFnResultFrom}
+use Rattle.std.proofs.lemmas.List.{drop-replicate}
+use Rattle.std.proofs.lemmas.Iterator.{YieldsList}
+use Rattle.std.proofs.lemmas.Iterator.Splits.{YieldsList-from_shown_while}
+use Rattle.lists.proofs.Tables.{get_or_everywhere, length_pad}
+use Rattle.std.specs.Slice.Iter.{chunks_exact_size, chunks_exact_rest, chunks_exact_steps}
 use Rattle.paper.specs.Identifiers.{kept}
 use Rattle.paper.specs.Setup.{ids_in, luns_in, whole_lun, setup_in, accepted}
 use Rattle.paper.specs.Tables.{initiator_table, unit_table}
@@ -26,8 +37,6 @@ use Rattle.paper.specs.Standing.{setup_kept}
 use Rattle.paper.specs.declared.state.IdType.TheVariants.{TransportId}
 use Rattle.paper.specs.declared.answers.Refusal.TheVariants.{BadSetup}
 use Rattle.paper.specs.declared.answers.Answer.TheVariants.{Good, Refused}
-use Rattle.paper.specs.declared.state.Initiators.{Initiators}
-use Rattle.paper.specs.declared.state.Units.{Units}
 use Rattle.paper.proofs.Getters.{fresh_units, fresh_transports}
 use Rattle.paper.proofs.Luns.{luns_whole}
 use Rattle.paper.proofs.SetupApart.{setup_apart}
@@ -52,7 +61,6 @@ head_at s k h = get_or-map head_of (luns_in s) k 0 ∙ ap head_of (lun_at s k h)
 
 -- ---- the TransportIDs that are listed
 gather_kept : (l : List (List ℕ)) → gather (kept TransportId) l ≡ gather (λ p. p) (map (kept TransportId) l)
-unfolding gather
 gather_kept [] = refl
 gather_kept (x ∷ l) = rw (gather_kept l)
 
@@ -67,37 +75,54 @@ pub length_ids : (s : List ℕ) → length (ids_in s) ≡ length s / 24
 unfolding ids_in
 length_ids s = length_parts 24 (length s / 24) s
 
--- ---- the tables, as loops fill them
-abbrev initiators_with : ℕ → List ℕ → Initiators
-initiators_with n bytes = record { count = n; ids = bytes; enrolments = replicate 400 0 }
+-- ---- the tables
+pub initiators_built : (s : List ℕ) → length s % 24 ≡ 0 → record { count = length s / 24; ids = s ++ drop (length s) (replicate 384 0); enrolments = replicate 400 0 } ≡ initiator_table (ids_in s)
+initiators_built s h = rw (drop-replicate {X = ℕ} (length s) 384 0, length_ids s, ids_gathered s h)
 
-abbrev units_with : ℕ → List ℕ → Units
-units_with n heads = record { count = n; luns = heads }
+-- the numbers that calls gave, where each call is that of one function
+made : {F : Type 0} (g : Mut F (ℕ × Unit {0}) ℕ) (f : F) (h : ℕ → ℕ) → ((x b : ℕ) (q : F) → Called g f (x, tt) b q → (q ≡ f) × (b ≡ h x)) → (ys : List ℕ) (i n : ℕ) → IsFromFnResultFrom g f ys i n → (k : ℕ) → k < n → get_or ys (i + k) 0 ≡ h (i + k)
+made g f h pure ys i zero r k l = absurd (omega arith)
+made g f h pure ys i (suc n) (q, y, e, called, rest) zero l = rw add-zero (e.1 0 ∙ (pure i y q called).1)
+made g f h pure ys i (suc n) (q, y, e, called, rest) (suc k) l =
+    let there : i + suc k ≡ i + 1 + k = omega arith in
+    rw there (made g f h pure ys (i + 1) n (subst (λ p. IsFromFnResultFrom g p ys (i + 1) n) (pure i y q called).0 rest) k (omega arith))
 
-pub initiators_built : (s : List ℕ) (size : ℕ) {bytes : List ℕ} → length s % 24 ≡ 0 → size ≡ length s → Built 0 384 (take size s) bytes size → initiators_with (size / 24) bytes ≡ initiator_table (ids_in s)
-unfolding gather
-initiators_built s size h e b =
-    let all_in : take size s ≡ gather (kept TransportId) (ids_in s) = take_all size s (omega arith) ∙ sym (ids_gathered s h) in
-    ap₂ (λ (n : ℕ) (l : List ℕ). initiators_with n l) (ap (λ (n : ℕ). n / 24) e ∙ sym (length_ids s)) (b.items_are ∙ ap (λ (l : List ℕ). pad 0 384 l) all_in)
+-- past the last LUN the heads are 0
+head_there : (s : List ℕ) (k : ℕ) → length s % 8 ≡ 0 → Dec (k < length s / 8) → get_or (map head_of (luns_in s)) k 0 ≡ head_of (be 8 s (8 * k))
+head_there s k whole (yes h) = head_at s k h
+head_there s k whole (no h) =
+    get_or-eq_default (map head_of (luns_in s)) 0 {n = k} (simp length-map (omega (arith, length_luns s)))
+    ∙ ap head_of (sym (be_out 8 s (8 * k) (omega arith)))
 
-module _ (s : List ℕ) (count : ℕ) (many : count ≡ length s / 8) where
-  pub lun_read : (k : ℕ) {x : ℕ} → k < count → x ≡ be 8 s (8 * k) → x ≡ get_or (luns_in s) k 0
-  lun_read k h e = e ∙ sym (lun_at s k (omega arith))
+pub units_built : {F : Type 0} (g : Mut F (ℕ × Unit {0}) ℕ) (f : F) (s heads : List ℕ) → length s % 8 ≡ 0 → length s ≤ 256 → ((k b : ℕ) (q : F) → Called g f (k, tt) b q → (q ≡ f) × (b ≡ head_of (be 8 s (8 * k)))) → IsFromFnResult g f heads 32 → record { count = length s / 8; luns = heads } ≡ unit_table (map head_of (luns_in s))
+units_built g f s heads whole few pure given =
+    let l = map head_of (luns_in s) in
+    let many : length l ≡ length s / 8 = simp length-map (length_luns s) in
+    let each : (k : ℕ) → k < length heads → get_or heads k 0 ≡ get_or (pad 0 32 l) k 0 =
+    λ k lt. rw zero-add at (made g f (λ i. head_of (be 8 s (8 * i))) pure heads 0 32 given.each k (omega (arith, given.long)))
+    ∙ sym (get_or_everywhere 0 32 l k ∙ head_there s k whole (dec_lt k (length s / 8))) in
+    let padded : heads ≡ pad 0 32 l = ext_get_or 0 heads (pad 0 32 l) (given.long ∙ sym (length_pad 0 32 l (omega (arith, many)))) each in
+    rw (padded, many)
 
-  pub all_luns : take count (luns_in s) ≡ luns_in s
-  all_luns = take_all count (luns_in s) (omega (arith, length_luns s))
+-- ---- the LUNs, one after the other
+luns_cons : (x rest : List ℕ) → length x ≡ 8 → luns_in (x ++ rest) ≡ be 8 x 0 ∷ luns_in rest
+unfolding luns_in parts
+luns_cons x rest h =
+    let e : length (x ++ rest) / 8 ≡ suc (length rest / 8) = simp length-append (omega arith) in
+    rw (e, take_at x rest 8 h, drop_at x rest 8 h)
 
-  pub length_heads : length (map head_of (luns_in s)) ≡ count
-  length_heads = simp length-map (length_luns s ∙ sym many)
-
-  pub heads_more : {k x head : ℕ} {heads : List ℕ} → Copied 0 32 [] (map head_of (luns_in s)) count count count k heads → k < count → x ≡ be 8 s (8 * k) → head ≡ head_of x → Copied 0 32 [] (map head_of (luns_in s)) count count count (k + 1) (set heads k head)
-  heads_more {k} g h e f =
-      rw (f ∙ (ap head_of e ∙ sym (head_at s k (omega arith)))) (copy_more g 0 h)
-
-  pub units_built : {heads : List ℕ} → Built 0 32 (take count (map head_of (luns_in s))) heads count → units_with count heads ≡ unit_table (map head_of (luns_in s))
-  units_built b =
-      let all_in : take count (map head_of (luns_in s)) ≡ map head_of (luns_in s) = take_all count (map head_of (luns_in s)) (omega (arith, length_heads)) in
-      ap₂ (λ (n : ℕ) (l : List ℕ). units_with n l) (sym length_heads) (b.items_are ∙ ap (λ (l : List ℕ). pad 0 32 l) all_in)
+pub luns_yielded : {s : _} (l : List ℕ) → chunks_exact_size s ≡ 8 → chunks_exact_rest s ≡ l → YieldsList chunks_exact_steps (λ x. be 8 x.now 0) s (luns_in l)
+luns_yielded {s} l e f =
+    rw (← f)
+    (YieldsList-from_shown_while
+    chunks_exact_steps
+    (λ x. be 8 x.now 0)
+    (λ t. luns_in (chunks_exact_rest t))
+    (λ t. chunks_exact_size t ≡ 8)
+    (λ t u p h. omega (arith, length_luns (chunks_exact_rest t), h.1.0, p))
+    (λ t x u p h. (h.0 ∙ p, ap luns_in h.1.0 ∙ luns_cons x.now (chunks_exact_rest u) (h.1.1 ∙ p)))
+    s
+    e)
 
 -- ---- a setup that fills the tables
 pub record Filling (ids luns : List ℕ) : Type 0 where

@@ -1,4 +1,6 @@
 // A command, whatever its bytes: the refusals in their order, then its operation code and service action.
+#![tactic(auto, using(crate::proofs::Asking::few_initiators, lists::proofs::Deliver::deliver_none), unfolding(paper::specs::Outcomes::decide_command, paper::specs::Outcomes::decide_reading, paper::specs::Outcomes::decide_order, paper::specs::Outcomes::reply_to, paper::specs::Commands::tests, paper::specs::InForce::effects))]
+
 ghost use Rattle.std.specs.Prelude.{◌≡◌, true, [], length, take};
 ghost use Rattle.lists.specs.Bytes.{be};
 ghost use Rattle.paper.specs.Standing.{standing};
@@ -20,6 +22,7 @@ use standing::rules;
 use tables::keys;
 
 // REPORT ACL: the key is tested before a byte is written.
+#[tactic(auto, unfolding(paper::specs::Commands::key_tests))]
 fn report_acl(c: Coordinator, cdb: &[u8], reply: &mut [u8]) -> Outcome
     requires { standing c ≡ true }
     ensures outcome { result ≡ outcome_of c (in_room (length reply.old) (judged (key_tests c (be 8 cdb.now 2)) (good [] (take (length_field cdb.now) (report_bytes c))))) }
@@ -36,9 +39,10 @@ fn owed(cdb: &[u8]) -> usize
     ensures { result ≡ owed cdb.now }
 {
     if wire::byte(cdb, 0) == 0x87 {
-        return wire::be32(cdb, 10) as usize;
+        wire::be32(cdb, 10) as usize
+    } else {
+        0
     }
-    0
 }
 
 // A command of an initiator, where the state stands. Each order has its command; all of them stand in this one function, since a function that hands the state on copies it.
@@ -64,10 +68,10 @@ pub fn command_standing(
         return outcomes::handed_back(c, Answer::Refused(Refusal::BadParameters), 0);
     }
     let order = match reading::command_of(c.enabled, cdb, list) {
-        Command::Denied(k) => return outcomes::checked(c, k),
-        Command::Report => return report_acl(c, cdb, reply),
-        Command::Request(l) => return tokening::request_token(c, initiator, l, random, reply),
-        Command::Out(o) => o,
+        Err(k) => return outcomes::checked(c, k),
+        Ok(Command::Report) => return report_acl(c, cdb, reply),
+        Ok(Command::Request(l)) => return tokening::request_token(c, initiator, l, random, reply),
+        Ok(Command::Out(order)) => order,
     };
     match order {
         OutOrder::Manage => command::manage_acl(c, list),
@@ -94,7 +98,7 @@ pub fn command(
     ensures outcome { result ≡ outcome_of c (decide_command c initiator cdb.now list.now random (length reply.old)) }
     ensures bytes { reply.new ≡ buffer_after (decide_command c initiator cdb.now list.now random (length reply.old)) reply.old }
 {
-    if !rules::standing(c) {
+    if !rules::standing(&c) {
         return outcomes::handed_back(c, Answer::Refused(Refusal::BadState), 0);
     }
     command_standing(c, initiator, cdb, list, random, reply)

@@ -5,16 +5,21 @@ use mathlib.Core.List.{List, [], ◌∷◌}
 use mathlib.Core.Bool.{Bool, true, false, not, ◌&&◌}
 use native.Mathlib.Omega.{arith}
 use native.Mathlib.Numerals.{add-one}
-use borrow.Author.Tests.{leb-true, ltb-true, eqb-true, le-leb, le-ltb, eq-eqb, ne_eqb, not-true, not-false}
+use borrow.Author.Tests.{lt-ltb, leb-true, ltb-true, eqb-true, le-leb, le-ltb, eq-eqb, ne_eqb}
 use lib.ListN.{length, take, drop, get_or, set}
 use lib.Seq.{take-suc, take-suc-set, take_all}
 use lib.Dec.{leb, ltb, eqb}
+use mathlib.Core.Logic.{inl, inr}
+use Rattle.std.specs.Prelude.{MatchBool}
+use Rattle.std.specs.Int.{from_be_bytes}
+use mir.Syntax.{w64}
+use Rattle.std.specs.Char.{IsAsciiHexdigit, IsNotAsciiHexdigit}
 use Rattle.lists.specs.Lists.{all}
 use Rattle.lists.specs.Bytes.{be}
 use Rattle.lists.proofs.Bytes.{be_take}
-use Rattle.lists.proofs.Tests.{split, and_true}
+use Rattle.lists.proofs.Tests.{split, and_true, clashes}
 use Rattle.journal.proofs.Runs.{next_byte}
-use Rattle.journal.specs.Kinds.{is_digit, hex_value, is_hex, is_dash, is_bytes, hex_bytes, bytes_of, decimal_from, decimal_of, is_number, is_digits, digits_of}
+use Rattle.journal.specs.Kinds.{is_digit, hex_value, is_hex, is_dash, is_bytes, hex_bytes, bytes_of, decimal_from, decimal_of, is_digits, digits_of}
 
 -- ---- a byte in a range, or in none
 pub in_range : (lo hi b : ℕ) → lo ≤ b → b ≤ hi → leb lo b && leb b hi ≡ true
@@ -46,6 +51,21 @@ module _ (b : ℕ) where
   unfolding hex_value
   hex_none p q r = rw (out_of 0x30 0x39 b p, out_of 0x61 0x66 b r, out_of 0x41 0x46 b q)
 
+  -- a hex digit that is in neither of the first two ranges is in the last
+  pub hex_else : is_hex b ≡ true → (0x30 ≤ b → b ≤ 0x39 → ⊥) → (0x61 ≤ b → b ≤ 0x66 → ⊥) → (0x41 ≤ b) × (b ≤ 0x46)
+  hex_else h p r =
+      split
+      (leb 0x41 b && leb b 0x46)
+      (λ e. let t = and_true (leb 0x41 b) (leb b 0x46) e in (leb-true 0x41 b t.0, leb-true b 0x46 t.1))
+      (λ e. absurd (omega (arith, ltb-true (hex_value b) 16 h, hex_none p (λ x y. clashes (in_range 0x41 0x46 b x y) e) r)))
+
+-- std's test of a hex digit is this one
+pub hex_cases : (b : ℕ) (r : Bool) → MatchBool r (IsAsciiHexdigit b) (IsNotAsciiHexdigit b) → r ≡ is_hex b
+hex_cases b true (inl (inl p)) = sym (lt-ltb (hex_value b) 16 (omega (arith, hex_decimal b (omega arith) (omega arith))))
+hex_cases b true (inl (inr p)) = sym (lt-ltb (hex_value b) 16 (omega (arith, hex_upper b (omega arith) (omega arith))))
+hex_cases b true (inr p) = sym (lt-ltb (hex_value b) 16 (omega (arith, hex_lower b (omega arith) (omega arith))))
+hex_cases b false p = sym (le-ltb (hex_value b) 16 (omega (arith, hex_none b (λ x y. omega arith) (λ x y. omega arith) (λ x y. omega arith))))
+
 -- ---- pairs of digits
 pub hex_length : (w : List ℕ) → length (hex_bytes w) ≡ length w / 2
 unfolding hex_bytes
@@ -65,21 +85,14 @@ hex_at (a ∷ (b ∷ s)) (suc k) h =
 
 -- ---- every byte passes, so that at a place does
 pub all_at : (p : ℕ → Bool) (l : List ℕ) (i : ℕ) → all p l ≡ true → i < length l → p (get_or l i 0) ≡ true
-unfolding all
 all_at p [] i e h = absurd (omega arith)
 all_at p (x ∷ l) zero e h = (and_true (p x) (all p l) e).0
 all_at p (x ∷ l) (suc i) e h = all_at p l i (and_true (p x) (all p l) e).1 (omega arith)
 
--- the two digits of a pair: they are in the word, and have values below 16
+-- the two digits of a pair are in the word
 module _ (w : List ℕ) (hex : all is_hex w ≡ true) (k : ℕ) (h : k < length (hex_bytes w)) where
   pub pair_room : 2 * k + 1 < length w
   pair_room = omega (arith, hex_length w)
-
-  pub pair_first : hex_value (get_or w (2 * k) 0) < 16
-  pair_first = ltb-true _ 16 (all_at is_hex w (2 * k) hex (omega (arith, pair_room)))
-
-  pub pair_second : hex_value (get_or w (2 * k + 1) 0) < 16
-  pair_second = ltb-true _ 16 (all_at is_hex w (2 * k + 1) hex pair_room)
 
 -- one more byte of a run, stored behind those that stand there already
 pub store_more : (xs to : List ℕ) (k : ℕ) {v : ℕ} → take k to ≡ take k xs → v ≡ get_or xs k 0 → k < length to → k < length xs → take (k + 1) (set to k v) ≡ take (k + 1) xs
@@ -89,28 +102,12 @@ pub store_end : (xs to : List ℕ) (n k : ℕ) → n ≡ length xs → n ≤ k �
 store_end xs to n k e h g t =
     let q : k ≡ n = omega arith in (e, rw q at t ∙ take_all n xs (omega arith))
 
--- ---- bytes: the tests in their order
+-- ---- bytes: the tests, where they are passed
 module _ (w : List ℕ) {dash : Bool} (e : dash ≡ is_dash w) where
-  pub bytes_dash : dash ≡ true → true ≡ is_bytes w
-  unfolding is_bytes
-  bytes_dash d = rw (← e, d)
-
-  pub bytes_none : dash ≡ true → bytes_of w ≡ []
-  unfolding bytes_of
-  bytes_none d = rw (← e, d)
-
   module _ (d : dash ≡ false) where
     pub bytes_pairs : bytes_of w ≡ hex_bytes w
     unfolding bytes_of
     bytes_pairs = rw (← e, d)
-
-    pub bytes_empty : length w ≡ 0 → false ≡ is_bytes w
-    unfolding is_bytes
-    bytes_empty z = rw (← e, d, eq-eqb (length w) 0 z)
-
-    pub bytes_odd : (length w ≡ 0 → ⊥) → (length w % 2 ≡ 0 → ⊥) → false ≡ is_bytes w
-    unfolding is_bytes
-    bytes_odd z o = rw (← e, d, ne_eqb (length w) 0 z, ne_eqb (length w % 2) 0 o)
 
     pub bytes_even : (length w ≡ 0 → ⊥) → length w % 2 ≡ 0 → {r : Bool} → r ≡ all is_hex w → r ≡ is_bytes w
     unfolding is_bytes
@@ -123,10 +120,6 @@ module _ (w : List ℕ) {dash : Bool} (e : dash ≡ is_dash w) where
         (and_true (eqb (length w % 2) 0) (all is_hex w) r.1).1
 
 -- ---- sixteen digits
-pub digits_short : (w : List ℕ) → (length w ≡ 16 → ⊥) → false ≡ is_digits w
-unfolding is_digits
-digits_short w z = rw (ne_eqb (length w) 16 z)
-
 pub digits_long : (w : List ℕ) → length w ≡ 16 → {r : Bool} → r ≡ all is_hex w → r ≡ is_digits w
 unfolding is_digits
 digits_long w z t = rw (eq-eqb (length w) 16 z) t
@@ -134,6 +127,10 @@ digits_long w z t = rw (eq-eqb (length w) 16 z) t
 pub digits_given : (w : List ℕ) → is_digits w ≡ true → (length w ≡ 16) × (all is_hex w ≡ true)
 unfolding is_digits
 digits_given w t = let r = and_true (eqb (length w) 16) (all is_hex w) t in (eqb-true (length w) 16 r.0, r.1)
+
+pub be_std : (s : List ℕ) → from_be_bytes w64 s ≡ be 8 s 0
+unfolding be
+be_std s = omega arith
 
 pub digits_read : (w s : List ℕ) (n : ℕ) → is_digits w ≡ true → n ≡ length (hex_bytes w) → take n s ≡ hex_bytes w → be 8 s 0 ≡ digits_of w
 unfolding digits_of
@@ -161,16 +158,3 @@ too_large w n k e h g =
 
 pub digit_range : (b : ℕ) → is_digit b ≡ true → (0x30 ≤ b) × (b ≤ 0x39)
 digit_range b e = let r = and_true (leb 0x30 b) (leb b 0x39) e in (leb-true 0x30 b r.0, leb-true b 0x39 r.1)
-
--- ---- number: the tests in their order
-pub number_empty : (w : List ℕ) → length w ≡ 0 → is_number w ≡ false
-unfolding is_number
-number_empty w z = rw (eq-eqb (length w) 0 z)
-
-pub number_other : (w : List ℕ) → (length w ≡ 0 → ⊥) → {r : Bool} → r ≡ all is_digit w → not r ≡ true → is_number w ≡ false
-unfolding is_number
-number_other w z {r} e d = rw (ne_eqb (length w) 0 z, ← e, not-true r d)
-
-pub number_digits : (w : List ℕ) → (length w ≡ 0 → ⊥) → {r : Bool} → r ≡ all is_digit w → not r ≡ false → is_number w ≡ ltb (decimal_of w) 18446744073709551616
-unfolding is_number
-number_digits w z {r} e d = rw (ne_eqb (length w) 0 z, ← e, not-false r d)

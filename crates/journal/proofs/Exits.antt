@@ -1,19 +1,28 @@
 -- Each exit of a function that reads is a case of its definition: a word that is at fault, or what is said.
 use Prim.Native.Nat.{ℕ, ◌-◌, ◌<◌, ◌≤◌}
 use mathlib.Core.List.{List}
-use mathlib.Core.Bool.{Bool, true, false, not}
+use mathlib.Core.Bool.{Bool, true, false, not, ◌||◌}
 use mathlib.Core.Path.{◌≡◌, refl, sym, ap, ap₂, subst, ◌∙◌}
 use native.Mathlib.Omega.{arith}
-use borrow.Author.Tests.{not-true, not-false, leb-true, eq-eqb, ne_eqb, lt-ltb, le-ltb}
+use borrow.Author.Tests.{leb-true, eqb-true, eq-eqb, ne_eqb, lt-ltb, le-ltb}
 use lib.ListN.{length, get_or, take}
-use lib.Dec.{leb}
-use Rattle.lists.proofs.Tests.{and_true}
+use lib.Seq.{take_all}
+use lib.Dec.{eqb, leb}
+use lib.Pointwise.{pointwise}
+use Rattle.std.specs.Prelude.{Option, Result, Ok, Err, IfOk, IfErr, IsErrAnd}
+use Rattle.std.specs.Bool.{then_some}
+use Rattle.std.specs.Option.{ok_or}
+use Rattle.std.specs.Cmp.{unsigned_Decides}
+use Rattle.std.proofs.lemmas.Slice.Eq.{slice_eq-Decides}
+use Rattle.lists.specs.Bytes.{same_bytes}
+use Rattle.lists.proofs.Bytes.{same_refl, same_take}
+use Rattle.lists.proofs.Tests.{and_true, same_test, split}
 use Rattle.journal.specs.Words.{next_word, rest_of, has_word}
 use Rattle.journal.specs.Kinds.{is_bytes, bytes_of, is_list, is_number, is_buffer, decimal_of, is_digits, digits_of}
-use Rattle.journal.specs.Statements.{Said, setup, command, route, Line, skipped, said, too_long, expected, needs, ending, read_setup, read_lent, read_list, read_command, read_link, read_route, read_reach, is_word, setup_word, command_word, link_word, route_word, reach_word, read_statement, without_cr, read_kept, read_line}
-use Rattle.journal.specs.Parsed.{line_of, Lists, Reads}
-use Rattle.journal.specs.declared.statement.Kind.{Kind}
+use Rattle.journal.specs.Statements.{setup, command, link, route, reach, Line, skipped, said, too_long, expected, read_setup, read_lent, read_list, read_command, read_link, read_route, read_reach, is_word, setup_word, command_word, link_word, route_word, reach_word, read_statement, without_cr, read_kept, read_line}
+use Rattle.journal.specs.Parsed.{line_of, Reads}
 use Rattle.journal.specs.declared.statement.Kind.TheVariants.{Keyword, Bytes, ByteList, Number, Buffer, Digits, End}
+use Rattle.journal.specs.declared.statement.Fault.{Fault}
 use Rattle.journal.specs.declared.statement.Parsed.{Parsed}
 use Rattle.journal.specs.declared.statement.Parsed.TheVariants.{Setup}
 use Rattle.journal.specs.declared.statement.ReadLine.{ReadLine}
@@ -23,36 +32,76 @@ use Rattle.journal.proofs.Lengths.{bytes_fit, next_fit}
 abbrev pub ended : List ℕ → Bool
 ended s = not (has_word s)
 
-module _ (p : List ℕ → Bool) {w v : List ℕ} {b : Bool} (e : w ≡ v) (f : b ≡ p w) where
-  pub decides : {t : Bool} → b ≡ t → p v ≡ t
-  decides h = sym (f ∙ ap p e) ∙ h
+module _ {A : Type 0} (p : List ℕ → Bool) (val : List ℕ → A) {o : Option A} {w u : List ℕ} (g : Fault) {q : Result A Fault} (is : w ≡ u) (e : o ≡ then_some (p w) (val w)) (h : q ≡ ok_or o g) where
+  asked : q ≡ ok_or (then_some (p u) (val u)) g
+  asked = h ∙ ap (λ x. ok_or x g) (e ∙ ap (λ x. then_some (p x) (val x)) is)
 
-  pub fails : not b ≡ true → p v ≡ false
-  fails h = decides (not-true b h)
+  pub unfit : {f : Fault} → q ≡ Err f → (p u ≡ false) × (f ≡ g)
+  unfit {f} k =
+      split
+      (p u)
+      (λ t. let z : ◌≡◌ {A = Result A Fault} (Ok (val u)) (Err f) = sym (rw t at asked) ∙ k in absurd cc)
+      (λ t. let z : ◌≡◌ {A = Result A Fault} (Err g) (Err f) = sym (rw t at asked) ∙ k in (t, cc))
 
-  pub holds : not b ≡ false → p v ≡ true
-  holds h = decides (not-false b h)
+  pub fit : {x : A} → q ≡ Ok x → (p u ≡ true) × (x ≡ val u)
+  fit {x} k =
+      split
+      (p u)
+      (λ t. let z : ◌≡◌ {A = Result A Fault} (Ok (val u)) (Ok x) = sym (rw t at asked) ∙ k in (t, cc))
+      (λ t. let z : ◌≡◌ {A = Result A Fault} (Err g) (Ok x) = sym (rw t at asked) ∙ k in absurd cc)
+
+-- what `needs` is asked, where the code has the test's answer
+pub tested : {b d : Bool} → b ≡ d → then_some b (tt {0}) ≡ then_some d (tt {0})
+tested e = ap (λ b. then_some b (tt {0})) e
+
+-- a fault is handed on as it is
+pub handed : {T : Type 0} (r : Result T Fault) {f g : Fault} {line : Line} → IsErrAnd r (λ e. e ≡ f) → f ≡ g → expected g.word g.expected ≡ line → IfErr r (λ e. expected e.word e.expected ≡ line)
+handed (Ok x) h e k = absurd h
+handed (Err x) h e k = ap (λ (f : Fault). expected f.word f.expected) (h ∙ e) ∙ k
+
+pub handed_any : {T : Type 0} (r : Result T Fault) {f g : Fault} {line : List ℕ → List ℕ → Line} → IsErrAnd r (λ e. e ≡ f) → f ≡ g → ((a b : List ℕ) → expected g.word g.expected ≡ line a b) → IfErr r (λ e. (a b : List ℕ) → expected e.word e.expected ≡ line a b)
+handed_any (Ok x) h e k = absurd h
+handed_any (Err x) h e k = λ a b. ap (λ (f : Fault). expected f.word f.expected) (h ∙ e) ∙ k a b
+
+-- the line that is read is the same by another name
+pub ok_so : (r : Result ReadLine Fault) (first second : List ℕ) {line other : Line} → line ≡ other → IfOk r (λ q. Reads q first second line) → IfOk r (λ q. Reads q first second other)
+ok_so r first second e h = subst (λ l. IfOk r (λ q. Reads q first second l)) e h
+
+pub err_so : {T : Type 0} (r : Result T Fault) {line other : Line} → line ≡ other → IfErr r (λ f. expected f.word f.expected ≡ line) → IfErr r (λ f. expected f.word f.expected ≡ other)
+err_so r e h = subst (λ l. IfErr r (λ f. expected f.word f.expected ≡ l)) e h
 
 -- ---- the kinds that have a limit
 pub list_fits : (w : List ℕ) → is_list w ≡ true → (is_bytes w ≡ true) × (length (bytes_of w) ≤ 65536)
 unfolding is_list
 list_fits w h = let b = and_true (is_bytes w) (leb (length (bytes_of w)) 65536) h in (b.0, leb-true (length (bytes_of w)) 65536 b.1)
 
-module _ (w : List ℕ) {fits : Bool} (e : fits ≡ is_number w) where
-  pub buffer_none : not fits ≡ true → fits ≡ is_buffer w
-  unfolding is_buffer
-  buffer_none h = rw (sym e ∙ not-true fits h) (not-true fits h)
-
-  pub buffer_is : {n : ℕ} → n ≡ decimal_of w → not fits ≡ false → leb n 65536 ≡ is_buffer w
-  unfolding is_buffer
-  buffer_is f h = rw (sym e ∙ not-false fits h) (ap (λ k. leb k 65536) f)
-
 -- ---- the statements without byte strings
--- one word, that is a number: what the code made of it is what the definition does
-pub one_read : (p : List ℕ → Bool) (kind : Kind) (say : ℕ → Said) (s : List ℕ) {fits : Bool} {n : ℕ} {w : List ℕ} → w ≡ next_word s → (fits ≡ p w) × (fits ≡ true → n ≡ decimal_of w) → needs fits 2 kind (ending 3 (rest_of s) (said (say n))) ≡ needs (p (next_word s)) 2 kind (ending 3 (rest_of s) (said (say (decimal_of (next_word s)))))
-one_read p kind say s {fits = true} e f =
-    rw (decides p e f.0 refl) (ap (λ m. ending 3 (rest_of s) (said (say m))) (f.1 refl ∙ ap decimal_of e))
-one_read p kind say s {fits = false} e f = rw (decides p e f.0 refl)
+module _ (s : List ℕ) where
+  pub link_number : is_number (next_word s) ≡ false → expected 2 Number ≡ read_link s
+  unfolding read_link
+  link_number h = rw h
+
+  pub reach_buffer : is_buffer (next_word s) ≡ false → expected 2 Buffer ≡ read_reach s
+  unfolding read_reach
+  reach_buffer h = rw h
+
+  module _ (h : is_number (next_word s) ≡ true) where
+    pub link_end : ended (rest_of s) ≡ false → expected 3 End ≡ read_link s
+    unfolding read_link
+    link_end l = rw (h, l)
+
+    pub link_said : {i : ℕ} → ended (rest_of s) ≡ true → i ≡ decimal_of (next_word s) → said (link i) ≡ read_link s
+    unfolding read_link
+    link_said l e = rw (h, l) (ap (λ i. said (link i)) e)
+
+  module _ (h : is_buffer (next_word s) ≡ true) where
+    pub reach_end : ended (rest_of s) ≡ false → expected 3 End ≡ read_reach s
+    unfolding read_reach
+    reach_end l = rw (h, l)
+
+    pub reach_said : {n : ℕ} → ended (rest_of s) ≡ true → n ≡ decimal_of (next_word s) → said (reach n) ≡ read_reach s
+    unfolding read_reach
+    reach_said l e = rw (h, l) (ap (λ n. said (reach n)) e)
 
 module _ (s : List ℕ) where
   pub route_number : is_number (next_word s) ≡ false → expected 2 Number ≡ read_route s
@@ -95,10 +144,6 @@ module _ (i : ℕ) (a b s : List ℕ) where
 
 -- ---- what has no byte strings leaves the buffers as they are
 module _ {r : ReadLine} {p : Parsed} (e : (r.parsed ≡ p) × (r.first ≡ 0) × (r.second ≡ 0)) where
-  pub listed_plainly : {second : List ℕ} {line : List ℕ → Line} → ((a b : List ℕ) → line_of p a b ≡ line a) → Lists r second line
-  listed_plainly {second} f =
-      record { is = λ a. ap (λ q. line_of q a (take r.second second)) e.0 ∙ f a (take r.second second); fits = omega (arith, e.2) }
-
   pub read_plainly : {first second : List ℕ} {line : Line} → ((a b : List ℕ) → line_of p a b ≡ line) → Reads r first second line
   read_plainly {first} {second} f =
       record { is = ap (λ q. line_of q (take r.first first) (take r.second second)) e.0 ∙ f (take r.first first) (take r.second second); first_fits = omega (arith, e.1); second_fits = omega (arith, e.2) }
@@ -108,18 +153,6 @@ reads_so {r} {first} {second} e h = subst (λ l. Reads r first second l) e h
 
 -- ---- what has them
 module _ (s : List ℕ) where
-  pub list_wrong : (i : ℕ) (a : List ℕ) → is_list (next_word s) ≡ false → expected 4 ByteList ≡ read_list i a s
-  unfolding read_list
-  list_wrong i a h = rw h
-
-  list_right : (i : ℕ) (a : List ℕ) → is_list (next_word s) ≡ true → read_lent i a (bytes_of (next_word s)) (rest_of s) ≡ read_list i a s
-  unfolding read_list
-  list_right i a h = rw h
-
-  pub list_read : (i : ℕ) {n : ℕ} {p : Parsed} {second w t : List ℕ} → is_list (next_word s) ≡ true → w ≡ next_word s → (n ≡ length (bytes_of w)) × (take n second ≡ bytes_of w) → t ≡ rest_of s → ((a b : List ℕ) → line_of p a b ≡ read_lent i a b t) → Lists (record { parsed = p; first = 0; second = n }) second (λ a. read_list i a s)
-  list_read i {n} {p} {second} {w} {t} h e d f l =
-      record { is = λ a. l a (take n second) ∙ (ap₂ (λ b q. read_lent i a b q) (d.1 ∙ ap bytes_of e) f ∙ list_right i a h); fits = omega (arith, d.0, ap (λ v. length (bytes_of v)) e, (list_fits (next_word s) h).1) }
-
   pub setup_first : is_bytes (next_word s) ≡ false → expected 2 Bytes ≡ read_setup s
   unfolding read_setup
   setup_first h = rw h
@@ -152,17 +185,36 @@ module _ (s : List ℕ) where
     command_cdb k = rw (h, k)
 
     module _ (k : is_bytes (next_word (rest_of s)) ≡ true) where
-      command_list : read_list (decimal_of (next_word s)) (bytes_of (next_word (rest_of s))) (rest_of (rest_of s)) ≡ read_command s
-      unfolding read_command
-      command_list = rw (h, k)
+      pub command_list : is_list (next_word (rest_of (rest_of s))) ≡ false → expected 4 ByteList ≡ read_command s
+      unfolding read_command read_list
+      command_list l = rw (h, k, l)
 
-      pub command_read : {r : ReadLine} {i n : ℕ} {first second w t : List ℕ} → length s ≤ 262144 → i ≡ decimal_of (next_word s) → w ≡ next_word (rest_of s) → (n ≡ length (bytes_of w)) × (take n first ≡ bytes_of w) → t ≡ rest_of (rest_of s) → Lists r second (λ a. read_list i a t) → Reads (record { parsed = r.parsed; first = n; second = r.second }) first second (read_command s)
-      command_read {r} {i} {n} {first} {second} {w} {t} short e f d g l =
-          record { is = l.is (take n first) ∙ (ap₂ (λ j q. read_list j (take n first) q) e g ∙ (ap (λ a. read_list (decimal_of (next_word s)) a (rest_of (rest_of s))) (d.1 ∙ ap bytes_of f) ∙ command_list)); first_fits = omega (arith, d.0, ap (λ x. length (bytes_of x)) f, next_fit s short); second_fits = l.fits }
+      module _ (l : is_list (next_word (rest_of (rest_of s))) ≡ true) where
+        pub command_lent : {i : ℕ} {t : List ℕ} → i ≡ decimal_of (next_word s) → t ≡ rest_of (rest_of (rest_of s)) → read_lent i (bytes_of (next_word (rest_of s))) (bytes_of (next_word (rest_of (rest_of s)))) t ≡ read_command s
+        unfolding read_command read_list
+        command_lent e f = rw (h, k, l) (ap₂ (λ i t. read_lent i (bytes_of (next_word (rest_of s))) (bytes_of (next_word (rest_of (rest_of s)))) t) e f)
+
+        pub command_read : {p : Parsed} {i n m : ℕ} {first second w v t : List ℕ} → length s ≤ 262144 → i ≡ decimal_of (next_word s) → w ≡ next_word (rest_of s) → v ≡ next_word (rest_of (rest_of s)) → t ≡ rest_of (rest_of (rest_of s)) → (n ≡ length (bytes_of w)) × (take n first ≡ bytes_of w) → (m ≡ length (bytes_of v)) × (take m second ≡ bytes_of v) → ((a b : List ℕ) → line_of p a b ≡ read_lent i a b t) → Reads (record { parsed = p; first = n; second = m }) first second (read_command s)
+        command_read {p} {i} {n} {m} {first} {second} {w} {v} {t} short e f g r c d reads =
+            record {
+              is = reads (take n first) (take m second) ∙ (ap₂ (λ a b. read_lent i a b t) (c.1 ∙ ap bytes_of f) (d.1 ∙ ap bytes_of g) ∙ command_lent e r);
+              first_fits = omega (arith, c.0, ap (λ x. length (bytes_of x)) f, next_fit s short);
+              second_fits = omega (arith, d.0, ap (λ x. length (bytes_of x)) g, (list_fits (next_word (rest_of (rest_of s))) l).1);
+            }
 
 -- ---- the first word
+pub word_is : (w v : List ℕ) (r : Bool) → r ≡ pointwise eqb w v → r ≡ is_word w v
+word_is w v r e =
+    let d = slice_eq-Decides unsigned_Decides w v r e in
+    same_test
+    (λ t. let q : w ≡ v = d.0 t in rw q (rw (eq-eqb (length v) (length v) refl, same_refl (length v) v)))
+    (λ t.
+    let p = and_true (eqb (length w) (length v)) (same_bytes (length v) w v) t in
+    let l = eqb-true (length w) (length v) p.0 in
+    d.1 (sym (take_all (length v) w (omega (arith, l))) ∙ (same_take w v (length v) (omega (arith, l)) (omega arith) p.1 ∙ take_all (length v) v (omega arith))))
+
 pub named : (v : List ℕ) {w u : List ℕ} {b t : Bool} → w ≡ u → b ≡ is_word w v → b ≡ t → is_word u v ≡ t
-named v e f h = decides (λ w. is_word w v) e f h
+named v e f h = sym (f ∙ ap (λ w. is_word w v) e) ∙ h
 
 module _ (s : List ℕ) where
   pub statement_setup : is_word (next_word s) setup_word ≡ true → read_setup (rest_of s) ≡ read_statement s
@@ -208,18 +260,14 @@ module _ (s : List ℕ) where
     unfolding without_cr
     cr_other k = rw (ne_eqb (length s) 0 h, ne_eqb (get_or s (length s - 1) 0) 0x0D k)
 
-  pub kept_none : length s ≡ 0 → skipped ≡ read_kept s
-  unfolding read_kept
-  kept_none h = rw (eq-eqb (length s) 0 h)
-
-  module _ (h : length s ≡ 0 → ⊥) where
-    pub kept_comment : get_or s 0 0 ≡ 0x23 → skipped ≡ read_kept s
+  module _ {b : Bool} (e : b ≡ (eqb (length s) 0 || eqb (get_or s 0 0) 0x23)) where
+    pub kept_none : b ≡ true → skipped ≡ read_kept s
     unfolding read_kept
-    kept_comment k = rw (ne_eqb (length s) 0 h, eq-eqb (get_or s 0 0) 0x23 k)
+    kept_none h = rw (sym e ∙ h)
 
-    pub kept_said : (get_or s 0 0 ≡ 0x23 → ⊥) → read_statement s ≡ read_kept s
+    pub kept_said : b ≡ false → read_statement s ≡ read_kept s
     unfolding read_kept
-    kept_said k = rw (ne_eqb (length s) 0 h, ne_eqb (get_or s 0 0) 0x23 k)
+    kept_said h = rw (sym e ∙ h)
 
   pub line_long : 262144 < length s → too_long ≡ read_line s
   unfolding read_line

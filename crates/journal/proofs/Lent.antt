@@ -1,75 +1,74 @@
 -- A lent buffer: how it is filled, what is told of its bytes, and what a call leaves in it.
-use Prim.Native.Nat.{ℕ, ◌+◌, ◌≤◌, ◌<◌}
+use Prim.Native.Nat.{ℕ, ◌+◌, ◌-◌, ◌≤◌, ◌<◌}
 use mathlib.Core.Path.{◌≡◌, refl, ap, ap₂, sym, ◌∙◌}
 use mathlib.Core.List.{List, [], ◌∷◌, ◌++◌}
 use mathlib.Core.Bool.{Bool, true, false, not}
 use native.Mathlib.Omega.{arith}
-use lib.ListN.{length, take, drop, set, replicate-append-replicate, length-drop, length-replicate}
-use lib.Seq.{take_all, take-suc-set}
-use native.Mathlib.Numerals.{add-one}
+use lib.ListN.{length, take, drop, length-replicate}
 use lib.Dec.{eqb, ltb, leb}
-use borrow.Author.Tests.{ltb-false, eq-eqb, ne_eqb}
+use borrow.Author.Tests.{ltb-false}
 use Rattle.paper.specs.Standing.{standing}
 use Rattle.paper.specs.Orders.{reading_of}
 use Rattle.paper.specs.Reports.{reach_bytes}
 use Rattle.lists.specs.Lists.{all, place_of}
 use Rattle.lists.proofs.Tests.{both, split}
+use Rattle.lists.proofs.Pages.{rest_is}
+use Rattle.std.specs.Prelude.{Option, Some, None}
+use Rattle.std.specs.List.{position}
+use Rattle.journal.proofs.Runs.{position_none, position_some}
 use Rattle.paper.specs.Outcomes.{Decision, refuse, check, good, in_room, decide_reading, owed, decide_command, decide_reach, outcome_of, buffer_after}
 use Rattle.paper.specs.declared.outcomes.Outcome.{Outcome}
 use Rattle.paper.specs.declared.state.Coordinator.{Coordinator}
-use Rattle.journal.specs.Texts.{kept_text, end_text}
-use Rattle.journal.specs.Replay.{lent, is_lent, spoiled_from, others_text, untouched_text, lent_text, after_call}
-
--- ---- a buffer is filled from its start on
-pub filled_more : (l : List ℕ) (k : ℕ) → k < length l → take k l ≡ lent k → take (k + 1) (set l k 0xA5) ≡ lent (k + 1)
-filled_more l k h e =
-    ap (λ (m : ℕ). take m (set l k 0xA5)) (add-one k) ∙ (take-suc-set l k 0xA5 h
-    ∙ (ap (λ (r : List ℕ). r ++ (0xA5 ∷ [])) e ∙ replicate-append-replicate k 1 0xA5))
-
-pub filled_all : (l : List ℕ) (k n : ℕ) → length l ≡ n → k ≤ length l → length l ≤ k → take k l ≡ lent k → l ≡ lent n
-filled_all l k n size h g e =
-    let q : k ≡ n = omega arith in sym (take_all k l g) ∙ (e ∙ ap (λ (m : ℕ). lent m) q)
+use Rattle.journal.specs.Texts.{decimal_text, kept_text, spoiled_text, end_text}
+use Rattle.journal.specs.Replay.{lent, is_lent, others_text, untouched_text, lent_text, after_call}
 
 -- ---- the first byte that is not as it was lent
 abbrev pub is_spoiled : ℕ → Bool
 is_spoiled b = not (is_lent b)
 
-pub spoiled_byte : (b : ℕ) → (b ≡ 0xA5 → ⊥) → is_spoiled b ≡ true
-spoiled_byte b h = rw (ne_eqb b 0xA5 h)
-
-pub lent_byte : (b : ℕ) → b ≡ 0xA5 → is_spoiled b ≡ false
-lent_byte b h = rw (eq-eqb b 0xA5 h)
-
 module _ {A : Type 0} (p : A → Bool) where
   all_pass : (l : List A) → length l ≤ place_of (λ x. not (p x)) l → all p l ≡ true
-  unfolding all place_of
+  unfolding place_of
   all_pass [] h = refl
   all_pass (x ∷ l) h =
       split (p x) (λ t. let k : length l ≤ place_of (λ y. not (p y)) l = omega (arith, rw t at h) in rw t (all_pass l k)) (λ t. absurd (omega (arith, rw t at h)))
 
   one_fails : (l : List A) → place_of (λ x. not (p x)) l < length l → all p l ≡ false
-  unfolding all place_of
+  unfolding place_of
   one_fails [] h = absurd (omega arith)
   one_fails (x ∷ l) h =
       split (p x) (λ t. let k : place_of (λ y. not (p y)) l < length l = omega (arith, rw t at h) in rw t (one_fails l k)) (λ t. rw t)
 
-module _ (n : ℕ) (s : List ℕ) (h : n ≤ length s) where
-  pub others_kept : length s ≤ n + place_of is_spoiled (drop n s) → others_text n s ≡ kept_text
+-- what is told of a buffer, by the place that the code found
+module _ (s : List ℕ) {o : Option ℕ} (e : o ≡ position is_spoiled s) where
+  kept : o ≡ None → all is_lent s ≡ true
+  kept h = all_pass is_lent s (position_none is_spoiled s (sym e ∙ h))
+
+  spoiled : {k : ℕ} → o ≡ Some k → (all is_lent s ≡ false) × (place_of is_spoiled s ≡ k)
+  spoiled h = let at = position_some is_spoiled s (sym e ∙ h) in (one_fails is_lent s at.1, at.0)
+
+module _ (n : ℕ) (s : List ℕ) {o : Option ℕ} (e : o ≡ position is_spoiled (take (length s - n) (drop n s))) where
+  behind : o ≡ position is_spoiled (drop n s)
+  behind = e ∙ ap (position is_spoiled) (rest_is s n)
+
+  pub others_kept : o ≡ None → others_text n s ≡ kept_text
   unfolding others_text
-  others_kept k = rw (all_pass is_lent (drop n s) (omega (arith, length-drop n s)))
+  others_kept h = rw (kept (drop n s) behind h)
 
-  pub others_spoiled : n + place_of is_spoiled (drop n s) < length s → others_text n s ≡ spoiled_from n s
+  pub others_spoiled : {k : ℕ} → o ≡ Some k → others_text n s ≡ spoiled_text ++ decimal_text (n + k)
   unfolding others_text
-  others_spoiled k = rw (one_fails is_lent (drop n s) (omega (arith, length-drop n s)))
+  others_spoiled h = let at = spoiled (drop n s) behind h in rw (at.0, at.1)
 
-module _ (s : List ℕ) where
-  pub untouched_kept : length s ≤ 0 + place_of is_spoiled (drop 0 s) → untouched_text s ≡ []
+module _ (s : List ℕ) {o : Option ℕ} (e : o ≡ position is_spoiled s) where
+  pub untouched_kept : o ≡ None → untouched_text s ≡ []
   unfolding untouched_text
-  untouched_kept k = rw (all_pass is_lent (drop 0 s) (omega (arith, length-drop 0 s)))
+  untouched_kept h = rw (kept s e h)
 
-  pub untouched_spoiled : 0 + place_of is_spoiled (drop 0 s) < length s → untouched_text s ≡ spoiled_from 0 s
+  pub untouched_spoiled : {k : ℕ} → o ≡ Some k → untouched_text s ≡ spoiled_text ++ decimal_text k
   unfolding untouched_text
-  untouched_spoiled k = rw (one_fails is_lent (drop 0 s) (omega (arith, length-drop 0 s)))
+  untouched_spoiled {k} h =
+      let at = spoiled s e h in
+      let z : 0 + place_of is_spoiled s ≡ k = omega (arith, at.1) in rw (at.0, z)
 
 -- ---- "the lent buffer is shorter than the bytes to deliver" is refused: what is delivered has room
 abbrev HasRoom : Coordinator → ℕ → Decision → Type 0

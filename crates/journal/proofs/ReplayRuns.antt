@@ -5,7 +5,7 @@ use mathlib.Core.List.{List, [], ◌∷◌}
 use mathlib.Core.Bool.{true, cond}
 use lib.ListN.{length, length-replicate}
 use lib.Dec.{eqb, ltb}
-use Rattle.lists.specs.Lists.{all, pairs, parts}
+use Rattle.lists.specs.Lists.{pairs, parts}
 use Rattle.lists.proofs.Tests.{split, both}
 use Rattle.paper.specs.Setup.{setup_rules, ids_in, luns_in, accepted}
 use Rattle.paper.specs.Fresh.{nothing, fresh, started}
@@ -22,7 +22,7 @@ use Rattle.journal.specs.Reached.{Reached}
 
 -- "Zero initiators or units is allowed."
 nothing_accepted : accepted [] [] ≡ true
-unfolding accepted setup_rules ids_in luns_in all pairs parts
+unfolding accepted setup_rules ids_in luns_in pairs parts
 nothing_accepted = refl
 
 pub nothing_reached : Reached (fresh nothing)

@@ -7,7 +7,7 @@ use native.Mathlib.Omega.{arith}
 use borrow.Author.Tests.{le-ltb, le-leb, leb-true, ltb-true, ne_eqb}
 use lib.Dec.{leb}
 use lib.ListN.{length, get_or}
-use Rattle.lists.specs.Lists.{all, gather}
+use Rattle.lists.specs.Lists.{all}
 use Rattle.lists.specs.Bytes.{same_bytes}
 use Rattle.lists.proofs.Members.{all_in, in_all, all_append}
 use Rattle.journal.specs.Words.{skip_spaces, word_at, after_word}
@@ -97,11 +97,9 @@ abbrev printed : ℕ → Bool
 printed b = leb 0x20 b
 
 last_printed : (w : List ℕ) → Word w → all printed (last_word w) ≡ true
-unfolding all
 last_printed w r = in_all printed w (λ x m. let l = ltb-true 0x20 x (all_in above r.plain m) in le-leb 0x20 x (omega arith))
 
 one_printed : (w t : List ℕ) → Word w → all printed t ≡ true → all printed (one_word w t) ≡ true
-unfolding all
 one_printed w t r p = rw (all_append printed w t, p) (rw (last_printed w r))
 
 no_cr : (l : List ℕ) → 1 ≤ length l → all printed l ≡ true → without_cr l ≡ l
@@ -117,7 +115,7 @@ line_read l some c p h =
 
 -- ---- there and back
 pub round_trip : (s : Said) → Fits s → read_line (written s) ≡ said s
-unfolding written all
+unfolding written
 round_trip (setup ids luns) (f, h) =
     let p = one_printed (bytes_text ids) _ (bytes_word ids f.0) (last_printed (bytes_text luns) (bytes_word luns f.1)) in
     line_read _ (omega arith) (λ e. omega arith) p h ∙ (setup_first _ ∙ setup_back ids luns f.0 f.1)
@@ -140,5 +138,5 @@ unfolding written digits_up_to
 link_reads = refl
 
 pub setup_reads : written (setup [] (0x0A ∷ 0xFF ∷ [])) ≡ 0x73 ∷ 0x65 ∷ 0x74 ∷ 0x75 ∷ 0x70 ∷ 0x20 ∷ 0x2D ∷ 0x20 ∷ 0x30 ∷ 0x61 ∷ 0x66 ∷ 0x66 ∷ []
-unfolding written bytes_text hex_text gather
+unfolding written bytes_text hex_text
 setup_reads = refl

@@ -8,7 +8,7 @@ use native.Mathlib.Nat.{pow-suc}
 use borrow.Author.Tests.{lt-ltb, le-leb, ltb-true, ltb-false, ne_eqb}
 use lib.Dec.{ltb}
 use lib.ListN.{length, length-append}
-use Rattle.lists.specs.Lists.{here, there, all, gather}
+use Rattle.lists.specs.Lists.{here, there, all}
 use Rattle.lists.specs.Bytes.{be_bytes}
 use Rattle.lists.proofs.Bytes.{be_bytes_lem, bytes_length, bytes_below}
 use Rattle.lists.proofs.Members.{all_append, place_in}
@@ -46,7 +46,7 @@ above_space : (b : ℕ) → above b ≡ true → is_space b ≡ false
 above_space b h = let l = ltb-true 0x20 b h in ne_eqb b 0x20 (λ e. omega arith)
 
 word_at_lem : (w t : List ℕ) → all above w ≡ true → Ends t → (word_at (w ++ t) ≡ w) × (after_word (w ++ t) ≡ t)
-unfolding word_at after_word all
+unfolding word_at after_word
 word_at_lem [] t p e = (e.none, e.stays)
 word_at_lem (b ∷ w) t p e =
     let q = and_true (above b) (all above w) p in
@@ -56,7 +56,7 @@ word_at_lem (b ∷ w) t p e =
 -- a word behind a space is the next one
 module _ (w t : List ℕ) (r : Word w) (e : Ends t) where
   skipped_to : skip_spaces (one_word w t) ≡ w ++ t
-  unfolding skip_spaces all
+  unfolding skip_spaces
   skipped_to = go w r.some r.plain
     where
       go : (v : List ℕ) → 1 ≤ length v → all above v ≡ true → skip_spaces (v ++ t) ≡ v ++ t
@@ -93,7 +93,7 @@ hex_char_lem d h =
     rw e (hex_lower (0x57 + d) (omega arith) (omega arith) ∙ omega arith, lt-ltb 0x20 (0x57 + d) (omega arith)))
 
 hex_back : (s : List ℕ) → AreBytes s → hex_bytes (hex_text s) ≡ s
-unfolding hex_text hex_bytes gather
+unfolding hex_text hex_bytes
 hex_back [] f = refl
 hex_back (x ∷ s) f =
     let h = f x (here refl) in
@@ -101,7 +101,7 @@ hex_back (x ∷ s) f =
     rw ((hex_char_lem (x / 16) (omega arith)).0, (hex_char_lem (x % 16) (omega arith)).0, hex_back s (λ y k. f y (there k)), e)
 
 hex_all : (p : ℕ → Bool) (s : List ℕ) → AreBytes s → ((d : ℕ) → d < 16 → p (hex_char d) ≡ true) → all p (hex_text s) ≡ true
-unfolding hex_text gather all
+unfolding hex_text
 hex_all p [] f g = refl
 hex_all p (x ∷ s) f g =
     let h = f x (here refl) in
@@ -115,7 +115,7 @@ hex_some : (s : List ℕ) → 1 ≤ length s → is_dash (hex_text s) ≡ false
 hex_some s h = rw (ne_eqb (length (hex_text s)) 1 (λ e. omega (arith, hex_length s)))
 
 pub bytes_word : (s : List ℕ) → AreBytes s → Word (bytes_text s)
-unfolding bytes_text all
+unfolding bytes_text
 bytes_word [] f = record { some = omega arith; plain = refl }
 bytes_word (x ∷ s) f =
     rw (text_some (x ∷ s) (λ e. omega arith)) (record {
@@ -153,7 +153,7 @@ digits_some k n =
     (λ e. rw e (omega (arith, length-append (digits_up_to k (n / 10)) ((0x30 + n % 10) ∷ []))))
 
 digits_all : (p : ℕ → Bool) → ((d : ℕ) → d < 10 → p (0x30 + d) ≡ true) → (k n : ℕ) → all p (digits_up_to k n) ≡ true
-unfolding digits_up_to all
+unfolding digits_up_to
 digits_all p g zero n = refl
 digits_all p g (suc k) n =
     split

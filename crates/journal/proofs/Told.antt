@@ -31,7 +31,7 @@ either_most true n l m h k = h
 either_most false n l m h k = k
 
 -- ---- numbers and bytes
-digits_most : (k n : ℕ) → length (digits_up_to k n) ≤ k
+pub digits_most : (k n : ℕ) → length (digits_up_to k n) ≤ k
 unfolding digits_up_to
 digits_most zero n = omega arith
 digits_most (suc k) n =
@@ -109,7 +109,7 @@ told w h k m = (line_taken w (omega arith) (omega arith), omega (arith, w.ended)
 pub number_most : (number : ℕ) → length (line_text ++ decimal_text number) ≤ 25
 number_most number = omega (arith, length-append line_text (decimal_text number), decimal_most number)
 
-kind_most : (kind : Kind) → length (kind_text kind) ≤ 52
+pub kind_most : (kind : Kind) → length (kind_text kind) ≤ 52
 kind_most Keyword = omega arith
 kind_most Bytes = omega arith
 kind_most ByteList = omega arith

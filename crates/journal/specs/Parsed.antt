@@ -20,11 +20,6 @@ line_of (Reach n) a b = said (reach n)
 abbrev pub Says : Parsed → (List ℕ → List ℕ → Line) → Type 0
 Says p line = (a b : List ℕ) → line_of p a b ≡ line a b
 
--- what is read behind the CDB, whatever that is, with the parameter bytes in a buffer
-pub record Lists (r : ReadLine) (second : List ℕ) (line : List ℕ → Line) : Type 0 where
-  pub is : (cdb : List ℕ) → line_of r.parsed cdb (take r.second second) ≡ line cdb
-  pub fits : r.second ≤ 131072
-
 -- a line that was read into two buffers of 131,072 bytes: half of 262,144, as a byte is two digits
 pub record Reads (r : ReadLine) (first second : List ℕ) (line : Line) : Type 0 where
   pub is : line_of r.parsed (take r.first first) (take r.second second) ≡ line

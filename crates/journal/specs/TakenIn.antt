@@ -1,16 +1,11 @@
 -- What is taken from a chunk into a line.
-use Rattle.std.specs.Prelude.{ℕ, ◌+◌, ◌≤◌, ◌≡◌, List, [], ◌∷◌, ◌++◌, Bool, cond, length, take}
+use Rattle.std.specs.Prelude.{ℕ, ◌+◌, ◌≤◌, ◌≡◌, List, ◌++◌, Bool, cond, length, take}
 use Rattle.lists.specs.Lists.{any, place_of}
 use Rattle.journal.specs.Lines.{is_end}
 
 -- the bytes of a chunk before the end of the line, or all of them
 abbrev pub before_end : List ℕ → List ℕ
 before_end chunk = take (place_of is_end chunk) chunk
-
--- a line that began with `old` has gone on with a byte: its first 262,145 bytes
-pub record Lengthened (old : List ℕ) (b : ℕ) (line : List ℕ) (used : ℕ) : Type 0 where
-  pub kept : line ≡ take 262145 (old ++ (b ∷ []))
-  pub small : used ≤ 262145
 
 -- a line that began with `old` has gone on with a chunk: whether it ended there, how many bytes were read, and its first 262,145 bytes
 pub record TookIn (old chunk : List ℕ) (ended : Bool) (eaten : ℕ) (line : List ℕ) (used : ℕ) : Type 0 where

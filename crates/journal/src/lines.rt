@@ -1,8 +1,11 @@
 // Lines, as their bytes come in: a line may end in a later chunk than it began in.
-ghost use Rattle.std.specs.Prelude.{◌≤◌, length, take};
-ghost use Rattle.journal.specs.TakenIn.{Lengthened, TookIn};
+ghost use Rattle.std.specs.Prelude.{◌≡◌, ◌≤◌, length, take};
+ghost use Rattle.std.specs.List.{position};
+ghost use Rattle.journal.specs.Lines.{is_end};
+ghost use Rattle.journal.specs.TakenIn.{TookIn};
 
 // What was taken from a chunk: how much of the line there is now, how many bytes were read, and whether the line is whole.
+// Stays: the clause of take_in, a public function, names used, eaten and ended.
 #[derive(Clone, Copy)]
 pub struct Taken {
     pub used: usize,
@@ -10,40 +13,26 @@ pub struct Taken {
     pub ended: bool,
 }
 
-// One byte more of a line. Of a line that is too long the first 262,145 bytes are kept: no statement is that long.
-fn lengthen(line: &mut [u8], used: usize, b: u8) -> usize
-    requires { (262145 ≤ length line.old) × (used ≤ 262145) }
-    ensures { Lengthened (take used line.old) b (take result line.new) result }
+// The place of the end of the line, if it is in the chunk.
+fn end_in(chunk: &[u8]) -> Option<usize>
+    ensures { result ≡ position is_end chunk.now }
 {
-    if used < 262145 {
-        line[used] = b;
-        return used + 1;
-    }
-    used
+    chunk.iter().position(|b| *b == b'\n')
 }
 
-// Takes bytes into the line up to its end, or all of the chunk.
+// Takes bytes into the line up to its end, or all of the chunk. Of a line that is too long the first 262,145 bytes are kept: no statement is that long.
 pub fn take_in(line: &mut [u8], used: usize, chunk: &[u8]) -> Taken
     requires { (262145 ≤ length line.old) × (used ≤ 262145) }
     ensures { TookIn (take used line.old) chunk.now result.ended result.eaten (take result.used line.new) result.used }
 {
-    let mut kept = used;
-    let mut k = 0;
-    while k < chunk.len() {
-        let b = chunk[k];
-        if b == b'\n' {
-            return Taken {
-                used: kept,
-                eaten: k + 1,
-                ended: true,
-            };
-        }
-        kept = lengthen(line, kept, b);
-        k += 1;
-    }
+    let end = end_in(chunk);
+    let bytes = &chunk[..end.unwrap_or(chunk.len())];
+    let ended = end.is_some();
+    let kept = bytes.len().min(262145 - used);
+    line[used..used + kept].copy_from_slice(&bytes[..kept]);
     Taken {
-        used: kept,
-        eaten: k,
-        ended: false,
+        used: used + kept,
+        eaten: bytes.len() + ended as usize,
+        ended,
     }
 }

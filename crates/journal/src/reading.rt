@@ -1,261 +1,169 @@
 // A line read: its words from left to right, each against the kind that its place asks for.
-ghost use Rattle.std.specs.Prelude.{◌≡◌, not, true, ◌≤◌, length};
-ghost use Rattle.journal.specs.Words.{next_word, rest_of, has_word};
-ghost use Rattle.journal.specs.Kinds.{is_list, is_buffer, decimal_of};
-ghost use Rattle.journal.specs.Statements.{needs, ending, is_word, read_setup, read_lent, read_list, read_command, read_link, read_route, read_reach, read_statement, without_cr, read_kept, read_line};
-ghost use Rattle.journal.specs.Parsed.{line_of, Says, Lists, Reads};
+ghost use Rattle.std.specs.Prelude.{◌≡◌, not, ◌||◌, eqb, ◌≤◌, List, ℕ, length, get_or, IfOk, IfErr};
+ghost use Rattle.std.specs.Bool.{then_some};
+ghost use Rattle.std.specs.Option.{ok_or};
+ghost use Rattle.journal.specs.Words.{has_word};
+ghost use Rattle.journal.specs.Statements.{expected, is_word, read_setup, read_lent, read_command, read_link, read_route, read_reach, read_statement, without_cr, read_kept, read_line};
+ghost use Rattle.journal.specs.Parsed.{line_of, Says, Reads};
+ghost use Rattle.journal.specs.declared.statement.Kind.TheVariants.{End};
 
-use crate::kinds::Numbered;
-use crate::statement::{Kind, Parsed, ReadLine};
+use crate::statement::{Fault, Kind, Parsed, ReadLine};
 use crate::{kinds, words};
 
-// The next word, which has no bytes where there is none.
-fn word_of(s: &[u8]) -> &[u8]
-    ensures { result.now ≡ next_word s.now }
+// A word is of the kind that its place asks for, or at fault.
+fn needs<T>(value: Option<T>, word: u8, expected: Kind) -> Result<T, Fault>
+    ensures { result ≡ ok_or value (record { word = word; expected = expected }) }
 {
-    let from = words::spaces(s);
-    let rest = &s[from..];
-    let size = words::word_size(rest);
-    &rest[..size]
+    value.ok_or(Fault { word, expected })
 }
 
-// What is left behind it.
-fn rest_of(s: &[u8]) -> &[u8]
-    ensures { result.now ≡ rest_of s.now }
+// No word is left, or the next is at fault.
+fn ends(s: &[u8], word: u8) -> Result<(), Fault>
+    ensures { result ≡ ok_or (then_some (not (has_word s.now)) tt) (record { word = word; expected = End }) }
 {
-    let from = words::spaces(s);
-    let rest = &s[from..];
-    let size = words::word_size(rest);
-    &rest[size..]
+    let is_end = words::next(s).0.is_empty();
+    needs(is_end.then_some(()), word, Kind::End)
 }
 
-// Whether no word is left.
-fn ends(s: &[u8]) -> bool
-    ensures { result ≡ not (has_word s.now) }
-{
-    word_of(s).len() == 0
-}
-
+// Whether two words are the same.
 fn is_word(w: &[u8], v: &[u8]) -> bool
     ensures { result ≡ is_word w.now v.now }
 {
-    if w.len() != v.len() {
-        return false;
-    }
-    wire::same(w, v, v.len())
+    w == v
 }
 
-// "bytes, at most 65,536 of them"
-fn is_list(w: &[u8]) -> bool
-    ensures { result ≡ is_list w.now }
+fn read_link(s: &[u8]) -> Result<Parsed, Fault>
+    ensures ok { IfOk result (λ p. Says p (λ a b. read_link s.now)) }
+    ensures err { IfErr result (λ f. expected f.word f.expected ≡ read_link s.now) }
 {
-    if !kinds::is_bytes(w) {
-        return false;
-    }
-    kinds::bytes_size(w) <= 65536
+    let (word, rest) = words::next(s);
+    let i = needs(kinds::number(word), 2, Kind::Number)?;
+    ends(rest, 3)?;
+    Ok(Parsed::Link(i))
 }
 
-// "a number up to 65,536"
-fn buffer(w: &[u8]) -> Numbered
-    ensures { (result.fits ≡ is_buffer w.now) × (result.fits ≡ true → result.value ≡ decimal_of w.now) }
+fn read_route(s: &[u8]) -> Result<Parsed, Fault>
+    ensures ok { IfOk result (λ p. Says p (λ a b. read_route s.now)) }
+    ensures err { IfErr result (λ f. expected f.word f.expected ≡ read_route s.now) }
 {
-    let n = kinds::number(w);
-    if !n.fits {
-        return n;
-    }
-    Numbered {
-        fits: n.value <= 65536,
-        value: n.value,
-    }
+    let (word, rest) = words::next(s);
+    let i = needs(kinds::number(word), 2, Kind::Number)?;
+    let (word, rest) = words::next(rest);
+    let lun = needs(kinds::digits(word), 3, Kind::Digits)?;
+    ends(rest, 4)?;
+    Ok(Parsed::Route(i, lun))
 }
 
-// A statement of one word behind the first: it is of its kind or at fault, and the line ends.
-fn one_word(fits: bool, kind: Kind, s: &[u8], stated: Parsed) -> Parsed
-    ensures { Says result (λ a b. needs fits 2 kind (ending 3 (rest_of s.now) (line_of stated a b))) }
+// Stays: like read_link but for the kind and the statement; one function that takes both is no shorter than the two.
+fn read_reach(s: &[u8]) -> Result<Parsed, Fault>
+    ensures ok { IfOk result (λ p. Says p (λ a b. read_reach s.now)) }
+    ensures err { IfErr result (λ f. expected f.word f.expected ≡ read_reach s.now) }
 {
-    if !fits {
-        return Parsed::Expected(2, kind);
-    }
-    if !ends(rest_of(s)) {
-        return Parsed::Expected(3, Kind::End);
-    }
-    stated
+    let (word, rest) = words::next(s);
+    let n = needs(kinds::buffer(word), 2, Kind::Buffer)?;
+    ends(rest, 3)?;
+    Ok(Parsed::Reach(n))
 }
 
-fn read_link(s: &[u8]) -> Parsed
-    ensures { Says result (λ a b. read_link s.now) }
-{
-    let i = kinds::number(word_of(s));
-    one_word(i.fits, Kind::Number, s, Parsed::Link(i.value))
-}
-
-fn read_route(s: &[u8]) -> Parsed
-    ensures { Says result (λ a b. read_route s.now) }
-{
-    let i = kinds::number(word_of(s));
-    if !i.fits {
-        return Parsed::Expected(2, Kind::Number);
-    }
-    let rest = rest_of(s);
-    let lun = word_of(rest);
-    if !kinds::is_digits(lun) {
-        return Parsed::Expected(3, Kind::Digits);
-    }
-    if !ends(rest_of(rest)) {
-        return Parsed::Expected(4, Kind::End);
-    }
-    Parsed::Route(i.value, kinds::digits(lun))
-}
-
-fn read_reach(s: &[u8]) -> Parsed
-    ensures { Says result (λ a b. read_reach s.now) }
-{
-    let n = buffer(word_of(s));
-    one_word(n.fits, Kind::Buffer, s, Parsed::Reach(n.value as usize))
-}
-
-// RANDOM and BUFFER, behind the list.
-fn read_lent(i: u64, s: &[u8]) -> Parsed
-    ensures { Says result (λ a b. read_lent i a b s.now) }
-{
-    let random = word_of(s);
-    if !kinds::is_digits(random) {
-        return Parsed::Expected(5, Kind::Digits);
-    }
-    let rest = rest_of(s);
-    let n = buffer(word_of(rest));
-    if !n.fits {
-        return Parsed::Expected(6, Kind::Buffer);
-    }
-    if !ends(rest_of(rest)) {
-        return Parsed::Expected(7, Kind::End);
-    }
-    Parsed::Command(i, kinds::digits(random), n.value as usize)
-}
-
-// A line without byte strings.
-fn plain(p: Parsed) -> ReadLine
-    ensures { (result.parsed ≡ p) × (result.first ≡ 0) × (result.second ≡ 0) }
-{
-    ReadLine {
-        parsed: p,
-        first: 0,
-        second: 0,
-    }
-}
-
-fn read_setup(s: &[u8], first: &mut [u8], second: &mut [u8]) -> ReadLine
+fn read_setup(s: &[u8], first: &mut [u8], second: &mut [u8]) -> Result<ReadLine, Fault>
     requires { (length s.now ≤ 262144) × (131072 ≤ length first.old) × (131072 ≤ length second.old) }
-    ensures { Reads result first.new second.new (read_setup s.now) }
+    ensures ok { IfOk result (λ r. Reads r first.new second.new (read_setup s.now)) }
+    ensures err { IfErr result (λ f. expected f.word f.expected ≡ read_setup s.now) }
 {
-    let ids = word_of(s);
-    if !kinds::is_bytes(ids) {
-        return plain(Parsed::Expected(2, Kind::Bytes));
-    }
-    let rest = rest_of(s);
-    let luns = word_of(rest);
-    if !kinds::is_bytes(luns) {
-        return plain(Parsed::Expected(3, Kind::Bytes));
-    }
-    if !ends(rest_of(rest)) {
-        return plain(Parsed::Expected(4, Kind::End));
-    }
-    ReadLine {
+    let (ids, rest) = words::next(s);
+    needs(kinds::is_bytes(ids).then_some(()), 2, Kind::Bytes)?;
+    let (luns, rest) = words::next(rest);
+    needs(kinds::is_bytes(luns).then_some(()), 3, Kind::Bytes)?;
+    ends(rest, 4)?;
+    Ok(ReadLine {
         parsed: Parsed::Setup,
         first: kinds::put_bytes_of(ids, first),
         second: kinds::put_bytes_of(luns, second),
-    }
+    })
 }
 
-// The list, behind the CDB.
-fn read_list(i: u64, s: &[u8], second: &mut [u8]) -> ReadLine
-    requires { 131072 ≤ length second.old }
-    ensures { Lists result second.new (λ cdb. read_list i cdb s.now) }
+// RANDOM and BUFFER, behind the list.
+fn read_lent(i: u64, s: &[u8]) -> Result<Parsed, Fault>
+    ensures ok { IfOk result (λ p. Says p (λ a b. read_lent i a b s.now)) }
+    ensures err { IfErr result (λ f. (a b : List ℕ) → expected f.word f.expected ≡ read_lent i a b s.now) }
 {
-    let list = word_of(s);
-    if !is_list(list) {
-        return plain(Parsed::Expected(4, Kind::ByteList));
-    }
-    let n = kinds::put_bytes_of(list, second);
-    ReadLine {
-        parsed: read_lent(i, rest_of(s)),
-        first: 0,
-        second: n,
-    }
+    let (word, rest) = words::next(s);
+    let random = needs(kinds::digits(word), 5, Kind::Digits)?;
+    let (word, rest) = words::next(rest);
+    let n = needs(kinds::buffer(word), 6, Kind::Buffer)?;
+    ends(rest, 7)?;
+    Ok(Parsed::Command(i, random, n))
 }
 
-fn read_command(s: &[u8], first: &mut [u8], second: &mut [u8]) -> ReadLine
+fn read_command(s: &[u8], first: &mut [u8], second: &mut [u8]) -> Result<ReadLine, Fault>
     requires { (length s.now ≤ 262144) × (131072 ≤ length first.old) × (131072 ≤ length second.old) }
-    ensures { Reads result first.new second.new (read_command s.now) }
+    ensures ok { IfOk result (λ r. Reads r first.new second.new (read_command s.now)) }
+    ensures err { IfErr result (λ f. expected f.word f.expected ≡ read_command s.now) }
 {
-    let i = kinds::number(word_of(s));
-    if !i.fits {
-        return plain(Parsed::Expected(2, Kind::Number));
-    }
-    let rest = rest_of(s);
-    let cdb = word_of(rest);
-    if !kinds::is_bytes(cdb) {
-        return plain(Parsed::Expected(3, Kind::Bytes));
-    }
-    let n = kinds::put_bytes_of(cdb, first);
-    let listed = read_list(i.value, rest_of(rest), second);
-    let parsed = listed.parsed;
-    ReadLine {
-        parsed: parsed,
-        first: n,
-        second: listed.second,
-    }
+    let (word, rest) = words::next(s);
+    let i = needs(kinds::number(word), 2, Kind::Number)?;
+    let (cdb, rest) = words::next(rest);
+    needs(kinds::is_bytes(cdb).then_some(()), 3, Kind::Bytes)?;
+    let (list, rest) = words::next(rest);
+    needs(kinds::is_list(list).then_some(()), 4, Kind::ByteList)?;
+    let parsed = read_lent(i, rest)?;
+    Ok(ReadLine {
+        parsed,
+        first: kinds::put_bytes_of(cdb, first),
+        second: kinds::put_bytes_of(list, second),
+    })
 }
 
 // A statement by its first word.
-fn read_statement(s: &[u8], first: &mut [u8], second: &mut [u8]) -> ReadLine
+fn read_statement(s: &[u8], first: &mut [u8], second: &mut [u8]) -> Result<ReadLine, Fault>
     requires { (length s.now ≤ 262144) × (131072 ≤ length first.old) × (131072 ≤ length second.old) }
-    ensures { Reads result first.new second.new (read_statement s.now) }
+    ensures ok { IfOk result (λ r. Reads r first.new second.new (read_statement s.now)) }
+    ensures err { IfErr result (λ f. expected f.word f.expected ≡ read_statement s.now) }
 {
-    let word = word_of(s);
-    let rest = rest_of(s);
+    let (word, rest) = words::next(s);
     if is_word(word, b"setup") {
-        return read_setup(rest, first, second);
+        read_setup(rest, first, second)
+    } else if is_word(word, b"command") {
+        read_command(rest, first, second)
+    } else if is_word(word, b"link") {
+        Ok(ReadLine::from(read_link(rest)?))
+    } else if is_word(word, b"route") {
+        Ok(ReadLine::from(read_route(rest)?))
+    } else if is_word(word, b"reach") {
+        Ok(ReadLine::from(read_reach(rest)?))
+    } else {
+        Err(Fault {
+            word: 1,
+            expected: Kind::Keyword,
+        })
     }
-    if is_word(word, b"command") {
-        return read_command(rest, first, second);
-    }
-    if is_word(word, b"link") {
-        return plain(read_link(rest));
-    }
-    if is_word(word, b"route") {
-        return plain(read_route(rest));
-    }
-    if is_word(word, b"reach") {
-        return plain(read_reach(rest));
-    }
-    plain(Parsed::Expected(1, Kind::Keyword))
 }
 
 // "One CR (0Dh) at the end of the line is dropped"
 fn without_cr(s: &[u8]) -> &[u8]
     ensures { result.now ≡ without_cr s.now }
 {
-    if s.len() == 0 {
-        return s;
+    match s {
+        [left @ .., b'\r'] => left,
+        _ => s,
     }
-    let last = s.len() - 1;
-    if s[last] == b'\r' {
-        return &s[..last];
-    }
-    s
 }
 
 // "If nothing is left, or the first byte is `#`, the line is skipped"
-fn read_kept(s: &[u8], first: &mut [u8], second: &mut [u8]) -> ReadLine
-    requires { (length s.now ≤ 262144) × (131072 ≤ length first.old) × (131072 ≤ length second.old) }
-    ensures { Reads result first.new second.new (read_kept s.now) }
+fn is_skipped(s: &[u8]) -> bool
+    ensures { result ≡ (eqb (length s.now) 0 || eqb (get_or s.now 0 0) 0x23) }
 {
-    if s.len() == 0 {
-        return plain(Parsed::Skipped);
-    }
-    if s[0] == b'#' {
-        return plain(Parsed::Skipped);
+    s.is_empty() || s[0] == b'#'
+}
+
+// What is left of a line: skipped, or a statement.
+fn read_kept(s: &[u8], first: &mut [u8], second: &mut [u8]) -> Result<ReadLine, Fault>
+    requires { (length s.now ≤ 262144) × (131072 ≤ length first.old) × (131072 ≤ length second.old) }
+    ensures ok { IfOk result (λ r. Reads r first.new second.new (read_kept s.now)) }
+    ensures err { IfErr result (λ f. expected f.word f.expected ≡ read_kept s.now) }
+{
+    if is_skipped(s) {
+        return Ok(ReadLine::from(Parsed::Skipped));
     }
     read_statement(s, first, second)
 }
@@ -266,7 +174,10 @@ pub fn read_line(line: &[u8], first: &mut [u8], second: &mut [u8]) -> ReadLine
     ensures { Reads result first.new second.new (read_line line.now) }
 {
     if 262144 < line.len() {
-        return plain(Parsed::TooLong);
+        return ReadLine::from(Parsed::TooLong);
     }
-    read_kept(without_cr(line), first, second)
+    match read_kept(without_cr(line), first, second) {
+        Ok(read) => read,
+        Err(fault) => ReadLine::from(fault),
+    }
 }

@@ -30,15 +30,11 @@ fn answer_read(
         Parsed::Expected(k, kind) => answering::answer_fault(c, number, k, kind, text),
         Parsed::Setup => answering::answer_setup(first, second, text),
         Parsed::Command(i, random, n) => {
-            let lent = &mut reply[..n];
-            answering::answer_command(c, i, first, second, random, lent, text)
+            answering::answer_command(c, i, first, second, random, &mut reply[..n], text)
         }
         Parsed::Link(i) => answering::answer_link(c, i, text),
         Parsed::Route(i, l) => answering::answer_route(c, i, l, text),
-        Parsed::Reach(n) => {
-            let lent = &mut reply[..n];
-            answering::answer_reach(c, lent, text)
-        }
+        Parsed::Reach(n) => answering::answer_reach(c, &mut reply[..n], text),
     }
 }
 
@@ -58,8 +54,13 @@ pub fn answer_line(
     ensures room { result.size ≤ 140000 }
 {
     let read = reading::read_line(line, first, second);
-    let parsed = read.parsed;
-    let a = read.first;
-    let b = read.second;
-    answer_read(c, number, parsed, &first[..a], &second[..b], reply, text)
+    answer_read(
+        c,
+        number,
+        read.parsed,
+        &first[..read.first],
+        &second[..read.second],
+        reply,
+        text,
+    )
 }

@@ -1,5 +1,5 @@
 // The words of answers, into a lent buffer: what is answered, and what is told of a line that is no statement.
-ghost use Rattle.std.specs.Prelude.{◌++◌, ◌+◌, ◌≤◌};
+ghost use Rattle.std.specs.Prelude.{ℕ, List, ◌++◌, ◌+◌, ◌≤◌, ⊤};
 ghost use Rattle.wire.specs.Write.{Wrote};
 ghost use Rattle.paper.specs.declared.answers.Answer.TheVariants.{Check, Refused};
 ghost use Rattle.paper.specs.declared.answers.Opened.TheVariants.{Opens};
@@ -11,14 +11,28 @@ use crate::statement::Kind;
 use paper::answers;
 use paper::answers::{Answer, Condition, Opened, Refusal};
 
+// What is told behind a statement's word.
+pub trait Told {
+    ghost told: { Self → List ℕ };
+
+    // what is asked of it, and the most bytes that it takes
+    ghost Fits: { Self → Type 0 };
+
+    ghost most: { ℕ };
+
+    fn put(self, text: &mut [u8], at: usize, limit: usize) -> usize
+        requires fits { Fits self }
+        requires room { at + most ≤ 4294967296 }
+        ensures { Wrote limit at (told self) text.old result text.new };
+}
+
 // "SENSE is the 18 bytes of sense data."
 pub fn put_check(text: &mut [u8], at: usize, limit: usize, k: Condition) -> usize
     requires { at + 43 ≤ 4294967296 }
     ensures { Wrote limit at (checked_text (Check k)) text.old result text.new }
 {
-    let sense = answers::sense_of(k);
     let next = wire::put_bytes(text, at, limit, b" check ");
-    printing::put_hex(text, next, limit, &sense)
+    printing::put_hex(text, next, limit, &answers::sense_of(k))
 }
 
 // "R is the number of the refusal"
@@ -26,20 +40,23 @@ pub fn put_refused(text: &mut [u8], at: usize, limit: usize, n: Refusal) -> usiz
     requires { at + 29 ≤ 4294967296 }
     ensures { Wrote limit at (checked_text (Refused n)) text.old result text.new }
 {
-    let number = answers::number_of(n);
-    let next = wire::put_bytes(text, at, limit, b" refused ");
-    printing::put_decimal(text, next, limit, number as u64)
+    printing::put_numbered(text, at, limit, b" refused ", answers::number_of(n) as u64)
 }
 
 // The answer to a call that lends no buffer.
-pub fn put_plain(text: &mut [u8], at: usize, limit: usize, answer: Answer) -> usize
-    requires { at + 43 ≤ 4294967296 }
-    ensures { Wrote limit at (plain_text answer) text.old result text.new }
-{
-    match answer {
-        Answer::Good => wire::put_bytes(text, at, limit, b" good"),
-        Answer::Check(k) => put_check(text, at, limit, k),
-        Answer::Refused(n) => put_refused(text, at, limit, n),
+impl Told for Answer {
+    ghost told = { plain_text };
+
+    ghost Fits = { λ a. ⊤ };
+
+    ghost most = { 43 };
+
+    fn put(self, text: &mut [u8], at: usize, limit: usize) -> usize {
+        match self {
+            Answer::Good => wire::put_bytes(text, at, limit, b" good"),
+            Answer::Check(k) => put_check(text, at, limit, k),
+            Answer::Refused(n) => put_refused(text, at, limit, n),
+        }
     }
 }
 
@@ -48,19 +65,23 @@ fn put_unit(text: &mut [u8], at: usize, limit: usize, unit: u8) -> usize
     requires { at + 26 ≤ 4294967296 }
     ensures { Wrote limit at (opened_text (Opens unit)) text.old result text.new }
 {
-    let next = wire::put_bytes(text, at, limit, b" unit ");
-    printing::put_decimal(text, next, limit, unit as u64)
+    printing::put_numbered(text, at, limit, b" unit ", unit as u64)
 }
 
 // The answer to the route question.
-pub fn put_opened(text: &mut [u8], at: usize, limit: usize, opened: Opened) -> usize
-    requires { at + 43 ≤ 4294967296 }
-    ensures { Wrote limit at (opened_text opened) text.old result text.new }
-{
-    match opened {
-        Opened::Opens(unit) => put_unit(text, at, limit, unit),
-        Opened::Closed(k) => put_check(text, at, limit, k),
-        Opened::Barred(n) => put_refused(text, at, limit, n),
+impl Told for Opened {
+    ghost told = { opened_text };
+
+    ghost Fits = { λ o. ⊤ };
+
+    ghost most = { 43 };
+
+    fn put(self, text: &mut [u8], at: usize, limit: usize) -> usize {
+        match self {
+            Opened::Opens(unit) => put_unit(text, at, limit, unit),
+            Opened::Closed(k) => put_check(text, at, limit, k),
+            Opened::Barred(n) => put_refused(text, at, limit, n),
+        }
     }
 }
 
@@ -69,39 +90,7 @@ pub fn put_line(text: &mut [u8], at: usize, limit: usize, number: u64) -> usize
     requires { at + 25 ≤ 4294967296 }
     ensures { Wrote limit at (line_text ++ decimal_text number) text.old result text.new }
 {
-    let next = wire::put_bytes(text, at, limit, b"line ");
-    printing::put_decimal(text, next, limit, number)
-}
-
-// What a word was expected to be.
-fn put_kind(text: &mut [u8], at: usize, limit: usize, kind: Kind) -> usize
-    requires { at + 52 ≤ 4294967296 }
-    ensures { Wrote limit at (kind_text kind) text.old result text.new }
-{
-    match kind {
-        Kind::Keyword => wire::put_bytes(
-            text,
-            at,
-            limit,
-            b"expected setup, command, link, route or reach",
-        ),
-        Kind::Bytes => wire::put_bytes(text, at, limit, b"expected bytes in hex or -"),
-        Kind::ByteList => wire::put_bytes(
-            text,
-            at,
-            limit,
-            b"expected at most 65536 bytes in hex or -",
-        ),
-        Kind::Number => wire::put_bytes(
-            text,
-            at,
-            limit,
-            b"expected a decimal number below 18446744073709551616",
-        ),
-        Kind::Buffer => wire::put_bytes(text, at, limit, b"expected a decimal number up to 65536"),
-        Kind::Digits => wire::put_bytes(text, at, limit, b"expected 16 hex digits"),
-        Kind::End => wire::put_bytes(text, at, limit, b"expected the end of the line"),
-    }
+    printing::put_numbered(text, at, limit, b"line ", number)
 }
 
 // The word at fault, and what was expected there.
@@ -112,5 +101,5 @@ pub fn put_expected(text: &mut [u8], at: usize, limit: usize, which: u8, kind: K
     let word = wire::put_bytes(text, at, limit, b": word ");
     let number = printing::put_decimal(text, word, limit, which as u64);
     let colon = wire::put_bytes(text, number, limit, b": ");
-    put_kind(text, colon, limit, kind)
+    wire::put_bytes(text, colon, limit, kind.message())
 }

@@ -6,9 +6,9 @@ pub mod Order
 pub mod Pages
 pub mod Parts
 pub mod Places
-pub mod Rebuild
 pub mod Sorting
 pub mod Sums
 pub mod Tables
 pub mod Tests
 pub mod Walk
+pub mod Passing

@@ -2,8 +2,8 @@
 use Prim.Native.Nat.{ℕ, zero, suc, ◌≤◌, ◌<◌}
 use mathlib.Core.Path.{◌≡◌, refl, ap, sym, ◌∙◌, subst}
 use mathlib.Core.List.{List, [], ◌∷◌, ◌++◌, map}
-use mathlib.Core.Option
-use mathlib.Core.Option.{Option, some, none}
+use Rattle.std.specs.Prelude.{option_map}
+use Rattle.std.specs.Prelude.{Option, Some, None}
 use mathlib.Core.Bool.{Bool, true, false, cond, ◌&&◌, ◌||◌, or_assoc, and_assoc}
 use mathlib.Core.Bool as Bool
 use mathlib.Core.Logic.{◌⊎◌, inl, inr, ⊎_elim}
@@ -51,12 +51,10 @@ map_same f [] e = refl
 map_same f (x ∷ l) e = rw (e x (here refl), map_same f l (λ y m. e y (there m)))
 
 pub in_gather : {A B : Type 0} (f : A → List B) {x : A} {y : B} {l : List A} → x ∈ l → y ∈ f x → y ∈ gather f l
-unfolding gather
 in_gather f {y = y} (here {l = m} e) k = in_left (gather f m) (subst (λ w. y ∈ f w) e k)
 in_gather f (there {y = z} h) k = in_right (f z) (in_gather f h k)
 
 pub from_gather : {A B : Type 0} (f : A → List B) {y : B} (l : List A) → y ∈ gather f l → (x : A) × (x ∈ l) × (y ∈ f x)
-unfolding gather
 from_gather f [] h = elim h [ ]
 from_gather f (z ∷ l) h =
     ⊎_elim (λ k. (z, here refl, k)) (λ k. let r = from_gather f l k in (r.0, there r.1, r.2)) (in_append (f z) h)
@@ -73,13 +71,11 @@ place_in d (there h) = let r = place_in d h in (suc r.0, omega (arith, r.1), r.2
 -- ---- what passes a test
 module _ {A : Type 0} (p : A → Bool) where
   pub in_keep : {x : A} {l : List A} → x ∈ l → p x ≡ true → x ∈ keep p l
-  unfolding keep
   in_keep {l = []} h e = elim h [ ]
   in_keep {l = y ∷ l} (here h) e = rw (ap p (sym h) ∙ e) (here h)
   in_keep {l = y ∷ l} (there h) e = let k = in_keep h e in split (p y) (λ q. rw q (there k)) (λ q. rw q k)
 
   pub from_keep : {x : A} (l : List A) → x ∈ keep p l → (x ∈ l) × (p x ≡ true)
-  unfolding keep
   from_keep [] h = elim h [ ]
   from_keep (y ∷ l) h =
       split
@@ -88,13 +84,11 @@ module _ {A : Type 0} (p : A → Bool) where
       (λ q. let r = from_keep l (rw q at h) in (there r.0, r.1))
 
   pub any_in : {x : A} {l : List A} → x ∈ l → p x ≡ true → any p l ≡ true
-  unfolding any
   any_in {l = []} h e = elim h [ ]
   any_in {l = y ∷ l} (here h) e = rw (ap p (sym h) ∙ e)
   any_in {l = y ∷ l} (there h) e = split (p y) (λ q. rw q) (λ q. rw q (any_in h e))
 
   pub in_any : (l : List A) → any p l ≡ true → (x : A) × (x ∈ l) × (p x ≡ true)
-  unfolding any
   in_any [] e = clashes e refl
   in_any (y ∷ l) e =
       split (p y) (λ q. (y, here refl, q)) (λ q. let r = in_any l (rw q at e) in (r.0, there r.1, r.2))
@@ -106,33 +100,28 @@ module _ {A : Type 0} (p : A → Bool) where
   none_any l f = split (any p l) (λ q. let r = in_any l q in clashes r.2 (f r.0 r.1)) (λ q. q)
 
   pub all_in : {x : A} {l : List A} → all p l ≡ true → x ∈ l → p x ≡ true
-  unfolding all
   all_in {l = []} e h = elim h [ ]
   all_in {l = y ∷ l} e (here h) = ap p h ∙ (and_true (p y) (all p l) e).0
   all_in {l = y ∷ l} e (there h) = all_in (and_true (p y) (all p l) e).1 h
 
   pub in_all : (l : List A) → ((x : A) → x ∈ l → p x ≡ true) → all p l ≡ true
-  unfolding all
   in_all [] f = refl
   in_all (y ∷ l) f = rw (f y (here refl)) (in_all l (λ x h. f x (there h)))
 
   pub not_all : (l : List A) → all p l ≡ false → (x : A) × (x ∈ l) × (p x ≡ false)
-  unfolding all
   not_all [] e = clashes refl e
   not_all (y ∷ l) e =
       split (p y) (λ q. let r = not_all l (rw q at e) in (r.0, there r.1, r.2)) (λ q. (y, here refl, q))
 
-  pub find_in : (l : List A) {x : A} → find p l ≡ some x → (x ∈ l) × (p x ≡ true)
-  unfolding find
+  pub find_in : (l : List A) {x : A} → find p l ≡ Some x → (x ∈ l) × (p x ≡ true)
   find_in [] e = absurd (none_not_some e)
   find_in (y ∷ l) {x} e =
       split
       (p y)
-      (λ q. let f : ◌≡◌ {A = Option A} (some y) (some x) = rw q at e in let g : x ≡ y = cc in (here g, ap p g ∙ q))
+      (λ q. let f : ◌≡◌ {A = Option A} (Some y) (Some x) = rw q at e in let g : x ≡ y = cc in (here g, ap p g ∙ q))
       (λ q. let r = find_in l (rw q at e) in (there r.0, r.1))
 
-  pub find_none : {x : A} {l : List A} → find p l ≡ none → x ∈ l → p x ≡ false
-  unfolding find
+  pub find_none : {x : A} {l : List A} → find p l ≡ None → x ∈ l → p x ≡ false
   find_none {l = []} e h = elim h [ ]
   find_none {l = y ∷ l} e h =
       split
@@ -140,50 +129,41 @@ module _ {A : Type 0} (p : A → Bool) where
       (λ q. absurd (none_not_some (sym (rw q at e))))
       (λ q. ⊎_elim (λ k. ap p k ∙ q) (λ k. find_none {l = l} (rw q at e) k) (in_cons h))
 
-  pub none_find : (l : List A) → ((x : A) → x ∈ l → p x ≡ false) → find p l ≡ none
-  unfolding find
+  pub none_find : (l : List A) → ((x : A) → x ∈ l → p x ≡ false) → find p l ≡ None
   none_find [] n = refl
   none_find (y ∷ l) n = rw (n y (here refl)) (none_find l (λ x h. n x (there h)))
 
   pub find_any : (l : List A) → is_some (find p l) ≡ any p l
-  unfolding find any
   find_any [] = refl
   find_any (y ∷ l) = split (p y) (λ q. rw q) (λ q. rw q (find_any l))
 
   -- ---- one list after another
   pub any_append : (l m : List A) → any p (l ++ m) ≡ any p l || any p m
-  unfolding any
   any_append [] m = refl
   any_append (y ∷ l) m = rw (any_append l m) (sym (or_assoc (p y) (any p l) (any p m)))
 
   pub all_append : (l m : List A) → all p (l ++ m) ≡ all p l && all p m
-  unfolding all
   all_append [] m = refl
   all_append (y ∷ l) m = rw (all_append l m) (sym (and_assoc (p y) (all p l) (all p m)))
 
   pub keep_append : (l m : List A) → keep p (l ++ m) ≡ keep p l ++ keep p m
-  unfolding keep
   keep_append [] m = refl
   keep_append (y ∷ l) m = split (p y) (λ q. rw (q, keep_append l m)) (λ q. rw (q, keep_append l m))
 
   pub find_append : (l m : List A) → find p (l ++ m) ≡ cond (any p l) (find p l) (find p m)
-  unfolding find any
   find_append [] m = refl
   find_append (y ∷ l) m = split (p y) (λ q. simp q) (λ q. simp q (find_append l m))
 
   -- ---- what is kept: all, nothing, no more than there was
   pub keep_all : (l : List A) → all p l ≡ true → keep p l ≡ l
-  unfolding keep all
   keep_all [] e = refl
   keep_all (y ∷ l) e = let r = and_true (p y) (all p l) e in rw (r.0, keep_all l r.1)
 
   pub keep_none : (l : List A) → any p l ≡ false → keep p l ≡ []
-  unfolding keep any
   keep_none [] e = refl
   keep_none (y ∷ l) e = let r = or_false (p y) (any p l) e in rw (r.0, keep_none l r.1)
 
   pub length_keep : (l : List A) → length (keep p l) ≤ length l
-  unfolding keep
   length_keep [] = omega arith
   length_keep (y ∷ l) =
       let h = length_keep l in split (p y) (λ q. rw q (omega arith)) (λ q. rw q (omega arith))
@@ -196,13 +176,13 @@ module _ {A : Type 0} (p : A → Bool) where
       let h = place_within l in split (p y) (λ q. rw q (omega arith)) (λ q. rw q (omega arith))
 
   pub place_some : (l : List A) → any p l ≡ true → place_of p l < length l
-  unfolding place_of any
+  unfolding place_of
   place_some [] e = clashes e refl
   place_some (y ∷ l) e =
       split (p y) (λ q. rw q (omega arith)) (λ q. let h = place_some l (rw q at e) in rw q (omega arith))
 
   pub place_none : (l : List A) → any p l ≡ false → place_of p l ≡ length l
-  unfolding place_of any
+  unfolding place_of
   place_none [] e = refl
   place_none (y ∷ l) e = let r = or_false (p y) (any p l) e in rw (r.0, place_none l r.1)
 
@@ -213,8 +193,8 @@ module _ {A : Type 0} (p : A → Bool) where
       (λ e. rw e (lt-ltb (place_of p l) (length l) (place_some l e)))
       (λ e. rw e (le-ltb (place_of p l) (length l) (omega (arith, place_none l e))))
 
-  pub place_find : (d : A) (l : List A) → any p l ≡ true → find p l ≡ some (get_or l (place_of p l) d)
-  unfolding place_of any find
+  pub place_find : (d : A) (l : List A) → any p l ≡ true → find p l ≡ Some (get_or l (place_of p l) d)
+  unfolding place_of
   place_find d [] e = clashes e refl
   place_find d (y ∷ l) e = split (p y) (λ q. simp q) (λ q. simp q (place_find d l (rw q at e)))
 
@@ -224,60 +204,49 @@ module _ {A : Type 0} (p : A → Bool) where
 -- ---- tests that agree on the elements give the same
 module _ {A : Type 0} (p q : A → Bool) where
   pub any_same : (l : List A) → ((x : A) → x ∈ l → p x ≡ q x) → any p l ≡ any q l
-  unfolding any
   any_same [] f = refl
   any_same (y ∷ l) f = rw (f y (here refl), any_same l (λ x h. f x (there h)))
 
   pub all_same : (l : List A) → ((x : A) → x ∈ l → p x ≡ q x) → all p l ≡ all q l
-  unfolding all
   all_same [] f = refl
   all_same (y ∷ l) f = rw (f y (here refl), all_same l (λ x h. f x (there h)))
 
   pub find_same : (l : List A) → ((x : A) → x ∈ l → p x ≡ q x) → find p l ≡ find q l
-  unfolding find
   find_same [] f = refl
   find_same (y ∷ l) f = rw (f y (here refl), find_same l (λ x h. f x (there h)))
 
   pub keep_same : (l : List A) → ((x : A) → x ∈ l → p x ≡ q x) → keep p l ≡ keep q l
-  unfolding keep
   keep_same [] f = refl
   keep_same (y ∷ l) f = rw (f y (here refl), keep_same l (λ x h. f x (there h)))
 
   -- ---- what passes among what was kept: the two tests in one
   pub any_keep : (l : List A) → any p (keep q l) ≡ any (λ x. q x && p x) l
-  unfolding any keep
   any_keep [] = refl
   any_keep (y ∷ l) = split (q y) (λ e. simp (e, any_keep l)) (λ e. simp (e, any_keep l))
 
   pub keep_keep : (l : List A) → keep p (keep q l) ≡ keep (λ x. q x && p x) l
-  unfolding keep
   keep_keep [] = refl
   keep_keep (y ∷ l) = split (q y) (λ e. simp (e, keep_keep l)) (λ e. simp (e, keep_keep l))
 
   pub find_both : (l : List A) → find p (keep q l) ≡ find (λ x. q x && p x) l
-  unfolding find keep
   find_both [] = refl
   find_both (y ∷ l) = split (q y) (λ e. simp (e, find_both l)) (λ e. simp (e, find_both l))
 
 -- ---- tests of what a function makes of the elements
 module _ {A B : Type 0} (f : A → B) (p : B → Bool) where
   pub any_map : (l : List A) → any p (map f l) ≡ any (λ x. p (f x)) l
-  unfolding any
   any_map [] = refl
   any_map (y ∷ l) = rw (any_map l)
 
   pub all_map : (l : List A) → all p (map f l) ≡ all (λ x. p (f x)) l
-  unfolding all
   all_map [] = refl
   all_map (y ∷ l) = rw (all_map l)
 
   pub keep_map : (l : List A) → keep p (map f l) ≡ map f (keep (λ x. p (f x)) l)
-  unfolding keep
   keep_map [] = refl
   keep_map (y ∷ l) = split (p (f y)) (λ e. simp (e, keep_map l)) (λ e. simp (e, keep_map l))
 
-  pub find_map : (l : List A) → find p (map f l) ≡ Option.map f (find (λ x. p (f x)) l)
-  unfolding find
+  pub find_map : (l : List A) → find p (map f l) ≡ option_map f (find (λ x. p (f x)) l)
   find_map [] = refl
   find_map (y ∷ l) = split (p (f y)) (λ e. simp e) (λ e. simp e (find_map l))
 
@@ -288,14 +257,13 @@ Once p (x ∷ l) = (p x ≡ true → any p l ≡ false) × Once p l
 
 -- what was found, if it passes another test
 abbrev pub only : {A : Type 0} → (A → Bool) → Option A → Option A
-only q none = none
-only q (some x) = cond (q x) (some x) none
+only q None = None
+only q (Some x) = cond (q x) (Some x) None
 
 module _ {A : Type 0} (p : A → Bool) where
-  pub find_once : {x : A} {l : List A} → Once p l → x ∈ l → p x ≡ true → find p l ≡ some x
-  unfolding find
+  pub find_once : {x : A} {l : List A} → Once p l → x ∈ l → p x ≡ true → find p l ≡ Some x
   find_once {l = []} o h e = elim h [ ]
-  find_once {l = y ∷ l} o (here h) e = rw (sym (ap p h) ∙ e) (ap some (sym h))
+  find_once {l = y ∷ l} o (here h) e = rw (sym (ap p h) ∙ e) (ap Some (sym h))
   find_once {l = y ∷ l} o (there h) e =
       split (p y) (λ q. clashes e (any_none p (o.0 q) h)) (λ q. rw q (find_once o.1 h e))
 
@@ -303,7 +271,6 @@ module _ {A : Type 0} (p : A → Bool) where
   none_kept q l e = none_any p (keep q l) (λ x h. any_none p e (from_keep q l h).0)
 
   pub find_keep : (q : A → Bool) (l : List A) → Once p l → find p (keep q l) ≡ only q (find p l)
-  unfolding find keep
   find_keep q [] o = refl
   find_keep q (y ∷ l) o =
       split
@@ -317,18 +284,16 @@ module _ {A : Type 0} (p : A → Bool) where
       find_both p q l
       ∙ find_same (λ x. q x && p x) p l (λ x h. split (p x) (λ e. simp (e, f x h e)) (λ e. simp (e, Bool.and-false)))
 
-  pub find_gone : (q : A → Bool) (l : List A) → ((x : A) → x ∈ l → p x ≡ true → q x ≡ false) → find p (keep q l) ≡ none
+  pub find_gone : (q : A → Bool) (l : List A) → ((x : A) → x ∈ l → p x ≡ true → q x ≡ false) → find p (keep q l) ≡ None
   find_gone q l f =
       none_find p (keep q l) (λ x h. let r = from_keep q l h in split (p x) (λ e. clashes r.1 (f x r.0 e)) (λ e. e))
 
   pub once_keep : (q : A → Bool) (l : List A) → Once p l → Once p (keep q l)
-  unfolding keep
   once_keep q [] o = tt
   once_keep q (y ∷ l) o =
       split (q y) (λ e. rw e (λ f. none_kept q l (o.0 f), once_keep q l o.1)) (λ e. rw e (once_keep q l o.1))
 
-  pub find_put : (l : List A) (y : A) → (p y ≡ true → find p l ≡ none) → find p (l ++ (y ∷ [])) ≡ cond (p y) (some y) (find p l)
-  unfolding find
+  pub find_put : (l : List A) (y : A) → (p y ≡ true → find p l ≡ None) → find p (l ++ (y ∷ [])) ≡ cond (p y) (Some y) (find p l)
   find_put l y f =
       find_append p l (y ∷ [])
       ∙ split
@@ -337,7 +302,6 @@ module _ {A : Type 0} (p : A → Bool) where
       (λ e. split (any p l) (λ g. simp (e, g)) (λ g. simp (e, g) (sym (none_find p l (λ x h. any_none p g h)))))
 
   pub once_last : (l : List A) (y : A) → (p y ≡ true → any p l ≡ false) → Once p l → Once p (l ++ (y ∷ []))
-  unfolding any
   once_last [] y f o = (λ e. refl, tt)
   once_last (x ∷ l) y f o =
       let r : p y ≡ true → (p x ≡ false) × (any p l ≡ false) = λ e. or_false (p x) (any p l) (f e) in (
@@ -390,18 +354,18 @@ module _ {A : Type 0} (f : A → A → Bool) where
       (in_cons h)
 
   pub pairs_append : (l m : List A) → pairs f (l ++ m) ≡ pairs f l || (pairs f m || any (λ x. any (f x) m) l)
-  unfolding pairs any
+  unfolding pairs
   pairs_append [] m = sym (Bool.or-false (pairs f m))
   pairs_append (x ∷ l) m =
       rw (any_append (f x) l m, pairs_append l m) (shuffle (any (f x) l) (any (f x) m) (pairs f l) (pairs f m) (any (λ x. any (f x) m) l))
 
   pub pairs_last : (l : List A) (y : A) → pairs f (l ++ (y ∷ [])) ≡ pairs f l || any (λ x. f x y) l
-  unfolding pairs any
+  unfolding pairs
   pairs_last l y =
       pairs_append l (y ∷ []) ∙ rw (any_same (λ x. f x y || false) (λ x. f x y) l (λ x h. Bool.or-false (f x y)))
 
   pub pairs_keep : (p : A → Bool) (l : List A) → pairs f l ≡ false → pairs f (keep p l) ≡ false
-  unfolding pairs keep
+  unfolding pairs
   pairs_keep p [] e = refl
   pairs_keep p (x ∷ l) e =
       let r = or_false (any (f x) l) (pairs f l) e in
@@ -422,7 +386,7 @@ pairs_map g f (x ∷ l) = rw (any_map g (f (g x)) l, pairs_map g f l)
 
 -- ---- lists of different elements
 pub different_keep : {A : Type 0} (p : A → Bool) (l : List A) → Different l → Different (keep p l)
-unfolding keep Different
+unfolding Different
 different_keep p [] d = tt
 different_keep p (x ∷ l) d =
     split (p x) (λ q. rw q (λ h. d.0 (from_keep p l h).0, different_keep p l d.1)) (λ q. rw q (different_keep p l d.1))

@@ -15,17 +15,14 @@ use Rattle.lists.proofs.Tests.{split}
 -- ---- the lists that the elements give, one after the other
 module _ {A B : Type 0} (f : A → List B) where
   pub gather_append : (l m : List A) → gather f (l ++ m) ≡ gather f l ++ gather f m
-  unfolding gather
   gather_append [] m = refl
   gather_append (x ∷ l) m = rw (gather_append l m) (sym (append_assoc (f x) (gather f l) (gather f m)))
 
   pub any_gather : (p : B → Bool) (l : List A) → any p (gather f l) ≡ any (λ x. any p (f x)) l
-  unfolding gather any
   any_gather p [] = refl
   any_gather p (x ∷ l) = any_append p (f x) (gather f l) ∙ rw (any_gather p l)
 
   pub length_gather : (size : ℕ) (l : List A) → ((x : A) → x ∈ l → length (f x) ≡ size) → length (gather f l) ≡ size * length l
-  unfolding gather
   length_gather size [] h = sym (mul-zero size)
   length_gather size (x ∷ l) h =
       length-append (f x) (gather f l)
@@ -45,7 +42,7 @@ get_or_parts size (suc n) l (suc i) d h =
     get_or_parts size n (drop size l) i d (omega arith) ∙ rw (drop-drop, mul-suc, add_comm size (size * i))
 
 pub parts_gather : {A B : Type 0} (f : A → List B) (size : ℕ) (xs : List A) (rest : List B) → ((x : A) → x ∈ xs → length (f x) ≡ size) → parts size (length xs) (gather f xs ++ rest) ≡ map f xs
-unfolding parts gather
+unfolding parts
 parts_gather f size [] rest h = refl
 parts_gather f size (x ∷ xs) rest h =
     let e = h x (here refl) in
@@ -53,7 +50,7 @@ parts_gather f size (x ∷ xs) rest h =
     (ap (λ l. f x ∷ l) (parts_gather f size xs rest (λ y k. h y (there k))))
 
 pub gather_parts : {A : Type 0} (size n : ℕ) (l : List A) → gather (λ p. p) (parts size n l) ≡ take (size * n) l
-unfolding parts gather
+unfolding parts
 gather_parts size zero l = rw mul-zero
 gather_parts size (suc n) l =
     rw (gather_parts size n (drop size l), mul-suc, add_comm (size * n) size) (sym (take-add size (size * n) l))
@@ -101,9 +98,7 @@ parts_next size (suc n) at l h = let e : suc n - 1 ≡ n = omega arith in rw (e,
 
 -- what the elements that pass give, one element at a time
 pub kept_none : {A B : Type 0} (f : A → List B) (p : A → Bool) → gather f (keep p []) ≡ []
-unfolding gather keep
 kept_none f p = refl
 
 pub kept_next : {A B : Type 0} (f : A → List B) (p : A → Bool) (x : A) (l : List A) → gather f (keep p (x ∷ l)) ≡ cond (p x) (f x) [] ++ gather f (keep p l)
-unfolding gather keep
 kept_next f p x l = split (p x) (λ e. simp e) (λ e. simp e)

@@ -34,19 +34,15 @@ both f p q = rw (p, q)
 -- ---- one turn of a loop over what is left: the test's answer b at the first element decides, or leaves it to the rest
 module _ {A : Type 0} (p : A → Bool) {l r : List A} {x : A} {b : Bool} (e : l ≡ x ∷ r) (t : b ≡ p x) where
   pub all_step : b ≡ true → all p l ≡ all p r
-  unfolding all
   all_step h = rw (e, ← t, h)
 
   pub all_stop : b ≡ false → all p l ≡ false
-  unfolding all
   all_stop h = rw (e, ← t, h)
 
   pub any_step : b ≡ false → any p l ≡ any p r
-  unfolding any
   any_step h = rw (e, ← t, h)
 
   pub any_stop : b ≡ true → any p l ≡ true
-  unfolding any
   any_stop h = rw (e, ← t, h)
 
 module _ {A : Type 0} (f : A → A → Bool) {l r : List A} {x : A} {b : Bool} (e : l ≡ x ∷ r) (t : b ≡ any (f x) r) where
@@ -60,11 +56,9 @@ module _ {A : Type 0} (f : A → A → Bool) {l r : List A} {x : A} {b : Bool} (
 
 module _ {A : Type 0} {l : List A} (e : l ≡ []) where
   pub all_end : (p : A → Bool) → all p l ≡ true
-  unfolding all
   all_end p = rw e
 
   pub any_end : (p : A → Bool) → any p l ≡ false
-  unfolding any
   any_end p = rw e
 
   pub pairs_end : (f : A → A → Bool) → pairs f l ≡ false

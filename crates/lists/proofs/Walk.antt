@@ -9,7 +9,7 @@ use lib.ListN.{length, take, drop, get_or, replicate, length-take, length-map, d
 use lib.Seq.{drop-cons, get_or-take, take_all}
 use mathlib.Core.Bool.{Bool, true, false}
 use Rattle.lists.specs.Lists.{place_of, find}
-use mathlib.Core.Option.{some, none}
+use Rattle.std.specs.Prelude.{Some, None}
 use borrow.Author.Tests.{lt-ltb, le-ltb}
 use Rattle.lists.proofs.Members.{place_any, place_find, none_find, any_none}
 
@@ -101,14 +101,14 @@ module _ {A : Type 0} {p : A → Bool} {total i : ℕ} {rest : List A} (s : Plac
 
 -- a table of which n entries are in use, its count or, if that is less, its size, and the place of the first that passes
 module _ {A : Type 0} (p : A → Bool) (items : List A) (size given : ℕ) {n place : ℕ} (long : length items ≡ size) (cap : n ≡ min given size) (at : place ≡ place_of p (take given items)) where
-  pub found_at : (d : A) → place < n → find p (take given items) ≡ some (get_or items place d)
+  pub found_at : (d : A) → place < n → find p (take given items) ≡ Some (get_or items place d)
   found_at d h =
       let l = take given items in
       let e : place_of p l < length l = omega (arith, length-take given items) in
       place_find p d l (sym (place_any p l) ∙ lt-ltb (place_of p l) (length l) e)
       ∙ rw (← at, get_or-take given items place d (omega arith))
 
-  pub found_nowhere : n ≤ place → find p (take given items) ≡ none
+  pub found_nowhere : n ≤ place → find p (take given items) ≡ None
   found_nowhere h =
       let l = take given items in
       let e : length l ≤ place_of p l = omega (arith, length-take given items) in

@@ -3,3 +3,4 @@ pub mod Order
 pub mod Tables
 pub mod Bytes
 pub mod Pages
+pub mod Tests

@@ -1,6 +1,10 @@
 -- Lists of any element: who is in one, what passes a test, parts of one size. Nothing of SCSI.
-use Rattle.std.specs.Prelude.{ℕ, zero, suc, ◌≡◌, List, [], ◌∷◌, ◌++◌, Bool, true, false, cond, ◌&&◌, ◌||◌, take, drop}
-use Rattle.std.proofs.Math.Option.{Option, some, none}
+use Rattle.std.specs.Prelude.{ℕ, zero, suc, ◌≡◌, List, [], ◌∷◌, Bool, false, cond, ◌||◌, take, drop}
+use Rattle.std.specs.Prelude.{Option, Some, None}
+use Rattle.std.specs.List.{filter, list_any, list_all, flat_map}
+-- the first element that passes; whether something is there
+pub use Rattle.std.specs.List.{find}
+pub use Rattle.std.specs.Option.{is_some}
 
 infix 4 ◌∈◌
 -- an element is in a list
@@ -8,45 +12,31 @@ pub data ◌∈◌ {A : Type 0} (x : A) : List A → Type 0 where
   here : {y : A} {l : List A} → x ≡ y → x ∈ (y ∷ l)
   there : {y : A} {l : List A} → x ∈ l → x ∈ (y ∷ l)
 
--- the first element that passes
-unfoldable pub find : {A : Type 0} → (A → Bool) → List A → Option A
-find p [] = none
-find p (x ∷ l) = cond (p x) (some x) (find p l)
-
 -- the place of the first element that passes, or the list's length
 unfoldable pub place_of : {A : Type 0} → (A → Bool) → List A → ℕ
 place_of p [] = 0
 place_of p (x ∷ l) = cond (p x) 0 (suc (place_of p l))
 
 -- the elements that pass, in their order
-unfoldable pub keep : {A : Type 0} → (A → Bool) → List A → List A
-keep p [] = []
-keep p (x ∷ l) = cond (p x) (x ∷ keep p l) (keep p l)
+abbrev pub keep : {A : Type 0} → (A → Bool) → List A → List A
+keep = filter
 
 -- whether some element passes
-unfoldable pub any : {A : Type 0} → (A → Bool) → List A → Bool
-any p [] = false
-any p (x ∷ l) = p x || any p l
+abbrev pub any : {A : Type 0} → (A → Bool) → List A → Bool
+any = list_any
 
 -- whether every element passes
-unfoldable pub all : {A : Type 0} → (A → Bool) → List A → Bool
-all p [] = true
-all p (x ∷ l) = p x && all p l
+abbrev pub all : {A : Type 0} → (A → Bool) → List A → Bool
+all = list_all
 
 -- whether some element and a later one are related
 unfoldable pub pairs : {A : Type 0} → (A → A → Bool) → List A → Bool
 pairs f [] = false
 pairs f (x ∷ l) = any (f x) l || pairs f l
 
--- whether something is there
-abbrev pub is_some : {A : Type 0} → Option A → Bool
-is_some none = false
-is_some (some x) = true
-
 -- the lists that each element gives, one after the other
-unfoldable pub gather : {A B : Type 0} → (A → List B) → List A → List B
-gather f [] = []
-gather f (x ∷ l) = f x ++ gather f l
+abbrev pub gather : {A B : Type 0} → (A → List B) → List A → List B
+gather = flat_map
 
 -- the first n parts of a list, of size elements each
 unfoldable pub parts : {A : Type 0} → ℕ → ℕ → List A → List (List A)
@@ -69,6 +59,6 @@ Different (x ∷ l) = (x ∈ l → ⊥) × Different l
 
 -- the element at a place, if there is one
 unfoldable pub nth : {A : Type 0} → List A → ℕ → Option A
-nth [] i = none
-nth (x ∷ l) zero = some x
+nth [] i = None
+nth (x ∷ l) zero = Some x
 nth (x ∷ l) (suc i) = nth l i

@@ -3,12 +3,13 @@ use Prim.Native.Nat.{ℕ, zero, suc, ◌/◌}
 use mathlib.Core.Path.{◌≡◌, refl, ap, ap₂, sym, ◌∙◌}
 use mathlib.Core.List.{List, [], ◌∷◌, ◌++◌, map}
 use mathlib.Core.Bool.{Bool, true, false, cond}
-use lib.ListN.{length, get_or}
+use lib.ListN.{length, get_or, length-map}
 use lib.Dec.{eqb, ltb, eqb-suc-zero}
 use native.Mathlib.Omega.{arith}
 use borrow.Author.Tests.{eqb-true, eq-eqb, ne_eqb, ltb-true, lt-ltb, le-ltb}
 use Rattle.lists.specs.Lists.{any, pairs, gather}
 use Rattle.lists.proofs.Tests.{split, same_test}
+use Rattle.lists.proofs.Parts.{length_parts}
 use Rattle.paper.specs.Sizes.{id_size}
 use Rattle.paper.specs.Layouts.{descriptor_size}
 use Rattle.paper.specs.Contents.{Content, these, everything, holds_nothing}
@@ -23,7 +24,6 @@ use Rattle.paper.specs.declared.state.IdType.TheVariants.{AccessId, TransportId}
 use Rattle.paper.specs.declared.state.Descriptor.{Descriptor}
 use Rattle.paper.specs.declared.state.Coordinator.{Coordinator}
 use Rattle.manage.specs.EndState.{in_order, enrolled_by, removes, ends_as, ends_under, initiators_by, initiators_after, live_by, live_after, live_of, granted_with, revoked_by, end_state}
-use Rattle.manage.proofs.Marks.{length_descriptors}
 use Rattle.manage.proofs.Grants.{acl_by, acl_pages}
 
 pub applied_append : (c : Coordinator) (es fs : List Effect) → applied_all c (es ++ fs) ≡ applied_all (applied_all c es) fs
@@ -32,8 +32,12 @@ applied_append c [] fs = refl
 applied_append c (e ∷ es) fs = applied_append (applied c e) es fs
 
 -- ---- a page 00h removes exactly if it has no descriptor: the last one always stands
+length_descriptors : (run : List ℕ) → length (descriptors_in run) ≡ length run / 20
+unfolding descriptors_in
+length_descriptors run = simp (length-map, length_parts)
+
 nothing_stands : (luns : List ℕ) (ds : List Descriptor) → holds_nothing (these (map (luacd_of luns) (not_overruled ds))) ≡ eqb (length ds) 0
-unfolding not_overruled any
+unfolding not_overruled
 nothing_stands luns [] = refl
 nothing_stands luns (d ∷ []) = refl
 nothing_stands luns (d ∷ (x ∷ xs)) =
@@ -91,7 +95,7 @@ module _ (luns : List ℕ) where
 
   -- ---- the pages, in order
   pages_applied : (pages : List (List ℕ)) (c : Coordinator) → applied_all c (gather (page_effects luns) pages) ≡ coordinator_of c.enabled c.generation c.key (in_order initiators_by pages c.initiators) c.units (in_order (acl_by luns) pages c.acl) (in_order live_by pages (live_of c)).tokens (in_order live_by pages (live_of c)).proxies
-  unfolding gather in_order applied_all
+  unfolding in_order applied_all
   pages_applied [] c = refl
   pages_applied (page ∷ pages) c =
       applied_append c (page_effects luns page) (gather (page_effects luns) pages)

@@ -17,7 +17,7 @@ use Rattle.paper.specs.Pages.{page_type, page_id, kept_id, is_grant, same_grant}
 use Rattle.paper.proofs.SameId.{same_kept, kept_same}
 use Rattle.paper.specs.declared.state.IdType.{IdType}
 use Rattle.paper.specs.declared.state.Ace.{Ace}
-use Rattle.paper.specs.declared.state.Acl.{Acl}
+use Rattle.paper.specs.Tables.{Acl}
 use Rattle.manage.specs.EndState.{in_order, grant_of, names_id, unnamed, new_aces, aces_after, acl_after}
 
 neither : (a b : Bool) → not a && not b ≡ not (a || b)
@@ -28,12 +28,12 @@ neither false b = refl
 module _ (page : List ℕ) (pages : List (List ℕ)) where
   -- a page that names nothing
   unnamed_other : is_grant page ≡ false → (aces : List Ace) → keep (unnamed (page ∷ pages)) aces ≡ keep (unnamed pages) aces
-  unfolding any names_id
+  unfolding names_id
   unnamed_other e aces = keep_same (unnamed (page ∷ pages)) (unnamed pages) aces (λ a h. rw e)
 
   -- an ACE is left when neither this page nor a later one names it
   unnamed_both : is_grant page ≡ true → (aces : List Ace) → keep (unnamed pages) (keep (other_ace (page_type page) (kept_id page)) aces) ≡ keep (unnamed (page ∷ pages)) aces
-  unfolding any names_id
+  unfolding names_id
   unnamed_both e aces =
       keep_keep (unnamed pages) (other_ace (page_type page) (kept_id page)) aces
       ∙ keep_same
@@ -57,7 +57,6 @@ module _ (page : List ℕ) (pages : List (List ℕ)) where
 
 -- what is put for an identifier that no later page names stays
 put_stays : (k : IdType) (id : List ℕ) (content : Content) (pages : List (List ℕ)) → any (names_id k id) pages ≡ false → keep (unnamed pages) (cond (holds_nothing content) [] (ace_of k id content ∷ [])) ≡ cond (holds_nothing content) [] (ace_of k id content ∷ [])
-unfolding keep
 put_stays k id (these []) pages h = refl
 put_stays k id (these (l ∷ ls)) pages h = rw h
 put_stays k id everything pages h = rw h
@@ -68,19 +67,18 @@ turned false x y = refl
 
 -- without pages every ACE stays
 all_stay : (l : List Ace) → keep (unnamed []) l ≡ l
-unfolding keep any
 all_stay [] = refl
 all_stay (a ∷ l) = ap (λ r. a ∷ r) (all_stay l)
 
 module _ (luns : List ℕ) where
   -- a page that puts no ACE
   aces_other : (page : List ℕ) (pages : List (List ℕ)) (aces : List Ace) → is_grant page ≡ false → aces_after luns (page ∷ pages) aces ≡ aces_after luns pages aces
-  unfolding aces_after gather new_aces
+  unfolding aces_after new_aces
   aces_other page pages aces e = rw (unnamed_other page pages e aces, e)
 
   -- an ACE put before the others is put in the same place
   aces_put : (page : List ℕ) (pages : List (List ℕ)) (aces : List Ace) → is_grant page ≡ true → any (same_grant page) pages ≡ false → aces_after luns pages (put_ace (page_type page) (kept_id page) (grant_of luns page) aces) ≡ aces_after luns (page ∷ pages) aces
-  unfolding aces_after put_ace gather new_aces
+  unfolding aces_after put_ace new_aces
   aces_put page pages aces e h =
       let k = page_type page in
       let id = kept_id page in
@@ -94,7 +92,7 @@ module _ (luns : List ℕ) where
 
   -- no page puts an ACE
   pub aces_none : (pages : List (List ℕ)) (aces : List Ace) → any is_grant pages ≡ false → aces_after luns pages aces ≡ aces
-  unfolding aces_after any gather
+  unfolding aces_after
   aces_none [] aces h = append-nil _ ∙ all_stay aces
   aces_none (page ∷ pages) aces h =
       let r = or_false (is_grant page) (any is_grant pages) h in
@@ -115,7 +113,7 @@ module _ (luns : List ℕ) where
       split (any is_grant pages) (λ f. rw (f, read)) (λ f. rw f (ap acl_of (sym (aces_none pages put f))))
 
   pub acl_pages : (pages : List (List ℕ)) (acl : Acl) → pairs same_grant pages ≡ false → in_order acl_by pages acl ≡ acl_after luns pages acl
-  unfolding in_order acl_after pairs any acl_by
+  unfolding in_order acl_after pairs acl_by
   acl_pages [] acl h = refl
   acl_pages (page ∷ pages) acl h =
       let r = or_false (any (same_grant page) pages) (pairs same_grant pages) h in

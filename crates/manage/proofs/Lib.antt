@@ -1,7 +1,7 @@
-pub mod Marks
+pub mod Filling
+pub mod Standing
 pub mod Grants
 pub mod EndState
-pub mod InOrder
 pub mod Put
-pub mod Room
+pub mod Fits
 pub mod Phases

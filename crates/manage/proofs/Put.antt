@@ -1,64 +1,63 @@
 -- What a page puts, and the ACEs that the pages put one after the other, as long as there is room.
 use Prim.Native.Nat.{ℕ, ◌+◌, ◌≤◌, ◌<◌}
 use mathlib.Core.Path.{◌≡◌, refl, ap, sym, ◌∙◌}
-use mathlib.Core.List.{List, [], ◌∷◌, ◌++◌, append_assoc, append-nil}
-use mathlib.Core.Bool.{Bool, true, false, cond, not, ◌&&◌}
+use mathlib.Core.List.{List, [], ◌∷◌, ◌++◌}
+use mathlib.Core.Bool.{Bool, true, false, cond, not, ◌&&◌, ◌||◌}
 use mathlib.Core.Bool as Bool
 use native.Mathlib.Omega.{arith}
-use lib.ListN.{length, get_or, take, drop, set, length-append}
-use lib.Seq.{take_all, get_or-drop}
-use lib.Dec.{leb, ltb, eqb-suc-zero}
-use mir.Syntax.{w8}
-use mir.Val.{Fits}
-use borrow.Author.Tests.{leb-true, leb-false, ltb-false, lt-ltb, le-ltb}
+use lib.ListN.{length, take, set}
+use lib.Dec.{ltb, eqb-suc-zero}
+use borrow.Author.Tests.{le-ltb}
+use Rattle.std.specs.Prelude.{Option, Some, None, Result, Ok, Err}
+use Rattle.std.specs.Result.{is_ok}
 use Rattle.lists.specs.Lists.{any, gather}
-use Rattle.lists.specs.Pages.{page_size, pages_of}
-use Rattle.lists.specs.Tables.{pad}
-use Rattle.lists.proofs.Tests.{split, clashes, and_true}
-use Rattle.lists.proofs.Bytes.{be_below}
-use Rattle.lists.proofs.Tables.{take_pad, Built, built_more}
+use Rattle.lists.specs.declared.Table.{Table}
+use Rattle.lists.proofs.Tests.{split, clashes}
+use Rattle.lists.proofs.Tables.{take_pad}
 use Rattle.lists.proofs.Members.{any_append}
-use Rattle.lists.proofs.Pages.{pages_end, page_length_lem}
-use Rattle.pages.proofs.Walking.{pages_turn}
 use Rattle.paper.specs.Sizes.{id_size}
 use Rattle.paper.specs.Contents.{these, everything, holds_nothing}
-use Rattle.paper.specs.Tables.{no_luacd, no_ace, ace_of, acl_of}
+use Rattle.paper.specs.Tables.{Acl, no_luacd, no_ace, ace_of}
 use Rattle.paper.specs.Pages.{page_code, page_type, kept_id, descriptor_run, page_luacds, is_grant}
 use Rattle.paper.specs.Commands.{many_luacds}
 use Rattle.paper.specs.declared.state.IdType.{IdType}
 use Rattle.paper.specs.declared.state.Luacd.{Luacd}
 use Rattle.paper.specs.declared.state.Ace.{Ace}
-use Rattle.paper.specs.declared.state.Acl.{Acl}
-use Rattle.manage.specs.declared.aces.Put.{Put}
+use Rattle.paper.specs.declared.answers.Condition.{Condition}
+use Rattle.paper.specs.declared.answers.Condition.TheVariants.{NoRoom}
 use Rattle.manage.specs.EndState.{grant_of, new_aces, crowded}
-use Rattle.manage.specs.Luacds.{luacds_in, filled_with}
-use Rattle.manage.specs.Aces.{putting, put_of, put_listed, Uncrowded, overfull, fitting, fitted}
+use Rattle.manage.specs.Luacds.{luacds_in, listed_in}
+use Rattle.manage.specs.Aces.{put_of, put_listed, fitted}
+use Rattle.manage.proofs.Filling.{Filling, fill_more, fill_skip, fill_full, fill_all, fill_fits, fill_end}
 
 -- ---- one page
--- a list that is put into an array of 16
-listed_put : (k : IdType) (id : List ℕ) (ls : List Luacd) → put_listed k id (filled_with ls) ≡ put_of (cond (not (holds_nothing (these ls))) (ace_of k id (these ls) ∷ []) [])
-unfolding put_listed filled_with put_of
+-- what is put by a table of LUACDs, if they have room in it
+abbrev pub put_table : IdType → List ℕ → Result (Table Luacd 16) Condition → Result (Option Ace) Condition
+put_table k id (Ok t) = Ok (put_listed k id (take t.count t.items))
+put_table k id (Err e) = Err e
+
+listed_put : (k : IdType) (id : List ℕ) (ls : List Luacd) → put_of (cond (not (holds_nothing (these ls))) (ace_of k id (these ls) ∷ []) []) ≡ put_table k id (listed_in ls)
+unfolding put_listed listed_in put_of
 listed_put k id [] = refl
 listed_put k id (p ∷ ps) =
     let ls = p ∷ ps in
     split
     (ltb 16 (length ls))
-    (λ e. rw (eqb-suc-zero (length ps), e))
+    (λ e. rw e)
     (λ e.
-    let few : length ls ≤ 16 = ltb-false 16 (length ls) e in
-    let same : take (length ls) (pad no_luacd 16 (take 16 ls)) ≡ ls = ap (λ l. take (length ls) (pad no_luacd 16 l)) (take_all 16 ls few) ∙ take_pad no_luacd 16 ls in
-    rw (eqb-suc-zero (length ps), e) (ap (λ l. putting true true (ace_of k id (these l))) same))
+    let whole : ◌≡◌ {A = Result (Option Ace) Condition} (Ok (Some (ace_of k id (these ls)))) (Ok (put_listed k id ls)) = rw (eqb-suc-zero (length ps)) in
+    rw e (whole ∙ ap (λ l. Ok (put_listed k id l)) (sym (take_pad no_luacd 16 ls))))
 
 module _ (luns page : List ℕ) where
-  pub put_00 : page_code page ≡ 0 → put_listed (page_type page) (kept_id page) (filled_with (luacds_in luns (descriptor_run id_size page))) ≡ put_of (new_aces luns page)
+  pub put_00 : page_code page ≡ 0 → put_of (new_aces luns page) ≡ put_table (page_type page) (kept_id page) (listed_in (luacds_in luns (descriptor_run id_size page)))
   unfolding new_aces luacds_in page_luacds
-  put_00 e = listed_put (page_type page) (kept_id page) (page_luacds luns page) ∙ rw e
+  put_00 e = rw e (listed_put (page_type page) (kept_id page) (page_luacds luns page))
 
-  pub put_01 : page_code page ≡ 1 → putting true true (ace_of (page_type page) (kept_id page) everything) ≡ put_of (new_aces luns page)
+  pub put_01 : page_code page ≡ 1 → ◌≡◌ {A = Result (Option Ace) Condition} (Ok (Some (ace_of (page_type page) (kept_id page) everything))) (put_of (new_aces luns page))
   unfolding new_aces put_of
   put_01 e = rw e
 
-  pub put_other : (page_code page ≡ 0 → ⊥) → (page_code page ≡ 1 → ⊥) → putting false true no_ace ≡ put_of (new_aces luns page)
+  pub put_other : (page_code page ≡ 0 → ⊥) → (page_code page ≡ 1 → ⊥) → ◌≡◌ {A = Result (Option Ace) Condition} (Ok None) (put_of (new_aces luns page))
   unfolding new_aces put_of
   put_other h k = rw (le-ltb (page_code page) 2 (omega arith))
 
@@ -71,121 +70,97 @@ module _ (luns page : List ℕ) where
       (λ e. rw e (omega arith))
 
 -- ---- what a list of one ACE at most puts
-put_none : (l : List Ace) → (put_of l).puts ≡ false → l ≡ []
+put_none : (l : List Ace) → put_of l ≡ Ok None → l ≡ []
 unfolding put_of
 put_none [] h = refl
-put_none (a ∷ l) h = split (many_luacds a) (λ e. clashes refl (rw e at h)) (λ e. clashes refl (rw e at h))
+put_none (a ∷ l) h =
+    split
+    (many_luacds a)
+    (λ e. clashes refl (sym (ap is_ok (rw e at h))))
+    (λ e. absurd (none_is_some (rw e at h)))
+  where
+    none_is_some : {x : Ace} → ◌≡◌ {A = Result (Option Ace) Condition} (Ok (Some x)) (Ok None) → ⊥
+    none_is_some e = let z : ◌≡◌ {A = ℕ} 0 1 = cc in omega arith
 
-put_some : (l : List Ace) → (put_of l).puts ≡ true → 1 ≤ length l
+put_one : (l : List Ace) {a : Ace} → length l ≤ 1 → put_of l ≡ Ok (Some a) → (l ≡ a ∷ []) × (any many_luacds l ≡ false)
 unfolding put_of
-put_some [] h = clashes h refl
-put_some (a ∷ l) h = omega arith
+put_one [] h p = absurd (none_is_some p)
+  where
+    none_is_some : {x : Ace} → ◌≡◌ {A = Result (Option Ace) Condition} (Ok None) (Ok (Some x)) → ⊥
+    none_is_some e = let z : ◌≡◌ {A = ℕ} 0 1 = cc in omega arith
+put_one (a ∷ (b ∷ l)) h p = absurd (omega arith)
+put_one (x ∷ []) {a} h p =
+    split
+    (many_luacds x)
+    (λ e. clashes (ap is_ok (rw e at p)) refl)
+    (λ e. let q : ◌≡◌ {A = Result (Option Ace) Condition} (Ok (Some x)) (Ok (Some a)) = rw e at p in
+    let same : x ≡ a = cc in (ap (λ y. y ∷ []) same, rw e))
 
-put_many : (l : List Ace) → (put_of l).fits ≡ false → any many_luacds l ≡ true
-unfolding put_of any
-put_many [] h = clashes refl h
-put_many (a ∷ l) h = split (many_luacds a) (λ e. rw e) (λ e. clashes refl (rw e at h))
-
-put_one : (l : List Ace) → length l ≤ 1 → (put_of l).puts ≡ true → (put_of l).fits ≡ true → (l ≡ (put_of l).ace ∷ []) × (any many_luacds l ≡ false)
-unfolding put_of any
-put_one [] h p f = clashes p refl
-put_one (a ∷ (b ∷ l)) h p f = absurd (omega arith)
-put_one (a ∷ []) h p f = split (many_luacds a) (λ e. clashes (rw e at f) refl) (λ e. rw e (refl, refl))
-
--- there is room for what a page puts
-pub put_room : (fits puts : Bool) (count : ℕ) → overfull fits puts count ≡ false → puts ≡ true → count < 32
-unfolding overfull
-put_room true true count h p = leb-false 32 count h
-put_room true false count h p = clashes p refl
-put_room false puts count h p = clashes refl h
+put_many : (l : List Ace) {k : Condition} → put_of l ≡ Err k → (any many_luacds l ≡ true) × (k ≡ NoRoom)
+unfolding put_of
+put_many [] h = clashes refl (ap is_ok h)
+put_many (a ∷ l) {k} h =
+    split
+    (many_luacds a)
+    (λ e. let q : ◌≡◌ {A = Result (Option Ace) Condition} (Err NoRoom) (Err k) = rw e at h in
+    let same : k ≡ NoRoom = cc in (rw e, same))
+    (λ e. clashes refl (ap is_ok (rw e at h)))
 
 -- ---- page after page: the ACEs so far, and those of the pages that are left, are together the target
-pub record Putting (target : List Ace) (luns : List ℕ) (items : List Ace) (count : ℕ) (rest : List ℕ) : Type 0 where
+pub record Putting (target : List Ace) (luns : List ℕ) (acl : Acl) (pages : List (List ℕ)) : Type 0 where
   pub sofar : List Ace
-  pub built : Built no_ace 32 sofar items count
-  pub few : count ≤ 32
+  pub filling : Filling no_ace target sofar (gather (new_aces luns) pages) acl
   pub small : any many_luacds sofar ≡ false
-  pub whole : target ≡ sofar ++ gather (new_aces luns) (pages_of rest)
-  pub bytes : (k : ℕ) → Fits w8 (get_or rest k 0)
 
-pub put_first : (acl : Acl) (luns rest : List ℕ) → Uncrowded acl → ((k : ℕ) → Fits w8 (get_or rest k 0)) → Putting (take acl.count acl.items ++ gather (new_aces luns) (pages_of rest)) luns acl.items acl.count rest
-put_first acl luns rest u b =
-    record {
-      sofar = take acl.count acl.items;
-      built = record { items_are = ap (λ x. x.items) u.blank; kept_is = ap (λ x. x.count) u.blank };
-      few = u.few;
-      small = u.small;
-      whole = refl;
-      bytes = b;
-    }
-
-module _ {target : List Ace} {luns : List ℕ} {items : List Ace} {count : ℕ} {rest : List ℕ} (s : Putting target luns items count rest) where
-  -- a page has at most 65,539 bytes, its head included
-  pub put_length : {p : List ℕ} → p ≡ take (page_size rest) rest → length p ≤ 65539
-  unfolding page_size
-  put_length {p} e = omega (arith, page_length_lem rest p e, be_below rest 2 s.bytes 2)
-
+module _ {target : List Ace} {luns : List ℕ} {acl : Acl} {pages : List (List ℕ)} (s : Putting target luns acl pages) where
   -- one more page
-  module _ {p q : List ℕ} {x : Put} (h : 0 < length rest) (e : p ≡ take (page_size rest) rest) (f : q ≡ drop (page_size rest) rest) (u : x ≡ put_of (new_aces luns p)) where
-    next : target ≡ s.sofar ++ (new_aces luns p ++ gather (new_aces luns) (pages_of q))
-    unfolding gather
-    next = s.whole ∙ rw (pages_turn rest h f e)
+  module _ {p : List ℕ} {others : List (List ℕ)} (e : pages ≡ p ∷ others) where
+    next : gather (new_aces luns) pages ≡ new_aces luns p ++ gather (new_aces luns) others
+    next = rw e
 
-    left : (k : ℕ) → Fits w8 (get_or q k 0)
-    left k = rw (f, get_or-drop) (s.bytes (page_size rest + k))
-
-    pub put_skips : {items' : List Ace} {count' : ℕ} → x.puts ≡ false → items' ≡ items → count' ≡ count → Putting target luns items' count' q
-    put_skips n i k =
-        let none : new_aces luns p ≡ [] = put_none (new_aces luns p) (sym (ap (λ y. y.puts) u) ∙ n) in
-        rw (i, k)
+    pub put_skips : put_of (new_aces luns p) ≡ Ok None → Putting target luns acl others
+    put_skips h =
         record {
           sofar = s.sofar;
-          built = s.built;
-          few = s.few;
+          filling = fill_skip s.filling (next ∙ rw (put_none (new_aces luns p) h));
           small = s.small;
-          whole = next ∙ rw none;
-          bytes = left;
         }
 
-    pub put_adds : {items' : List Ace} {count' : ℕ} → overfull x.fits x.puts count ≡ false → x.puts ≡ true → items' ≡ set items count x.ace → count' ≡ count + 1 → Putting target luns items' count' q
-    unfolding overfull
-    put_adds o n i k =
-        let new = new_aces luns p in
-        let fits : x.fits ≡ true = split x.fits (λ t. t) (λ t. clashes refl (rw t at o)) in
-        let one = put_one new (short luns p) (sym (ap (λ y. y.puts) u) ∙ n) (sym (ap (λ y. y.fits) u) ∙ fits) in
-        let is : new ≡ x.ace ∷ [] = one.0 ∙ ap (λ y. y.ace ∷ []) (sym u) in
-        let below : count < 32 = put_room x.fits x.puts count o n in
-        rw (i, k)
-        record {
-          sofar = s.sofar ++ (x.ace ∷ []);
-          built = built_more s.built x.ace below;
-          few = omega arith;
-          small = any_append many_luacds s.sofar (x.ace ∷ []) ∙ rw (s.small, ← is, one.1);
-          whole = next ∙ ap (λ l. s.sofar ++ (l ++ gather (new_aces luns) (pages_of q))) is ∙ sym (append_assoc s.sofar (x.ace ∷ []) (gather (new_aces luns) (pages_of q)));
-          bytes = left;
-        }
+    module _ {a : Ace} (h : put_of (new_aces luns p) ≡ Ok (Some a)) where
+      one : (new_aces luns p ≡ a ∷ []) × (any many_luacds (new_aces luns p) ≡ false)
+      one = put_one (new_aces luns p) (short luns p) h
 
-    -- no room: too many LUACDs in one, or a 33rd
-    pub put_full : overfull x.fits x.puts count ≡ true → fitted target ≡ fitting false (acl_of [])
-    unfolding overfull fitted crowded
-    put_full o =
-        let new = new_aces luns p in
-        let later = gather (new_aces luns) (pages_of q) in
-        split
-        x.fits
-        (λ t.
-        let both = and_true x.puts (leb 32 count) (rw t at o) in
-        let some : 1 ≤ length new = put_some new (sym (ap (λ y. y.puts) u) ∙ both.0) in
-        let full : 32 ≤ count = leb-true 32 count both.1 in
-        let long : 32 < length target = omega (arith, ap length next, length-append s.sofar (new ++ later), length-append new later, s.built.kept_is) in
-        rw (lt-ltb 32 (length target) long))
-        (λ t.
-        let many : any many_luacds new ≡ true = put_many new (sym (ap (λ y. y.fits) u) ∙ t) in
-        let found : any many_luacds target ≡ true = ap (any many_luacds) next ∙ any_append many_luacds s.sofar (new ++ later) ∙ rw (any_append many_luacds new later, many, Bool.or-true) in
-        rw (found, Bool.or-true))
+      turn : gather (new_aces luns) pages ≡ a ∷ gather (new_aces luns) others
+      turn = next ∙ rw (one.0)
 
-  pub put_end : length rest ≤ 0 → fitting true (record { count = count; items = items }) ≡ fitted target
-  unfolding fitted crowded gather
+      pub put_adds : {acl' : Acl} → acl.count < 32 → acl' ≡ record { count = acl.count + 1; items = set acl.items acl.count a } → Putting target luns acl' others
+      put_adds f u =
+          record {
+            sofar = s.sofar ++ (a ∷ []);
+            filling = fill_more s.filling turn f u;
+            small = any_append many_luacds s.sofar (a ∷ []) ∙ ap (λ b. any many_luacds s.sofar || b) (ap (any many_luacds) (sym one.0) ∙ one.1) ∙ rw s.small;
+          }
+
+      -- a 33rd has no room
+      pub put_33rd : 32 ≤ acl.count → fitted target ≡ Err NoRoom
+      unfolding fitted crowded
+      put_33rd f = rw (fill_full s.filling turn f)
+
+    -- too many LUACDs in one
+    pub put_full : {k : Condition} → put_of (new_aces luns p) ≡ Err k → fitted target ≡ Err k
+    unfolding fitted crowded
+    put_full h =
+        let many = put_many (new_aces luns p) h in
+        let later = gather (new_aces luns) others in
+        let found : any many_luacds target ≡ true = ap (any many_luacds) (s.filling.whole ∙ ap (λ r. s.sofar ++ r) next) ∙ any_append many_luacds s.sofar (new_aces luns p ++ later) ∙ rw (any_append many_luacds (new_aces luns p) later, many.0, Bool.or-true) in
+        rw (found, Bool.or-true, many.1)
+
+  pub put_end : pages ≡ [] → ◌≡◌ {A = Result Acl Condition} (Ok acl) (fitted target)
+  unfolding fitted crowded
   put_end h =
-      let all : target ≡ s.sofar = s.whole ∙ rw (pages_end rest h, append-nil) in
-      rw (all, s.small, le-ltb 32 (length s.sofar) (omega (arith, s.few, s.built.kept_is)), s.built.kept_is, s.built.items_are)
+      let none : gather (new_aces luns) pages ≡ [] = rw h in
+      let small : any many_luacds target ≡ false = ap (any many_luacds) (fill_all s.filling none) ∙ s.small in
+      rw (fill_fits s.filling none, small) (ap Ok (fill_end s.filling none))
+
+-- a page puts an ACE, or none
+pub ruleset puts = (put_adds, put_skips)

@@ -13,7 +13,7 @@ use Rattle.paper.specs.Commands.{many_luacds}
 use Rattle.paper.specs.declared.state.IdType.{IdType}
 use Rattle.paper.specs.declared.state.IdType.TheVariants.{AccessId, TransportId}
 use Rattle.paper.specs.declared.state.Ace.{Ace}
-use Rattle.paper.specs.declared.state.Acl.{Acl}
+use Rattle.paper.specs.Tables.{Acl}
 use Rattle.paper.specs.declared.state.Initiators.{Initiators}
 use Rattle.paper.specs.declared.state.Coordinator.{Coordinator}
 use Rattle.manage.specs.declared.live.Live.{Live}

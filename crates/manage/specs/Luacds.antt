@@ -1,42 +1,22 @@
--- Which LUACDs of a page stand, as a scratch table marks them, and the array that they are put into.
-use Rattle.std.specs.Prelude.{ℕ, suc, ◌+◌, ◌*◌, List, [], ◌∷◌, map, Bool, cond, length, get_or, take, drop, set, ltb}
-use Rattle.lists.specs.Lists.{any}
-use Rattle.lists.specs.Tables.{pad}
+-- The LUACDs of a page that stand, and the table that an ACE has for them.
+use Rattle.std.specs.Prelude.{ℕ, List, map, cond, length, take, ltb, Result, Ok, Err}
+use Rattle.lists.specs.Tables.{filled}
+use Rattle.lists.specs.declared.Table.{Table}
 use Rattle.paper.specs.Sizes.{max_luacds}
-use Rattle.paper.specs.Layouts.{descriptor_size}
 use Rattle.paper.specs.Tables.{no_luacd}
-use Rattle.paper.specs.Pages.{descriptor_in, descriptors_in, overrules, not_overruled, luacd_of}
+use Rattle.paper.specs.Pages.{descriptors_in, not_overruled, luacd_of}
 use Rattle.paper.specs.declared.state.Luacd.{Luacd}
-use Rattle.paper.specs.declared.state.Descriptor.{Descriptor}
-use Rattle.manage.specs.declared.luacds.Filled.{Filled}
+use Rattle.paper.specs.declared.state.Units.{Units}
+use Rattle.paper.specs.declared.answers.Condition.{Condition}
+use Rattle.paper.specs.declared.answers.Condition.TheVariants.{NoRoom}
 
--- the descriptor at a place of a run
-abbrev pub descriptor_of : List ℕ → ℕ → Descriptor
-descriptor_of run k = descriptor_in (take descriptor_size (drop (descriptor_size * k) run))
+-- the default LUNs, by unit number
+abbrev pub luns_in : Units → List ℕ
+luns_in units = take units.count units.luns
 
-abbrev pub no_descriptor : Descriptor
-no_descriptor = descriptor_in []
-
--- whether a later descriptor overrules the one at a place
-unfoldable pub overruled_at : List Descriptor → ℕ → Bool
-overruled_at ds k = any (overrules (get_or ds k no_descriptor)) (drop (suc k) ds)
-
--- ---- the scratch table: 1 for a descriptor that stands
-abbrev pub mark_of : Bool → ℕ
-mark_of b = cond b 0 1
-
-unfoldable pub marks_of : List Descriptor → List ℕ
-marks_of [] = []
-marks_of (d ∷ ds) = mark_of (any (overrules d) ds) ∷ marks_of ds
-
--- ---- the array: the first 16, and how many there are
 unfoldable pub luacds_in : List ℕ → List ℕ → List Luacd
 luacds_in luns run = map (luacd_of luns) (not_overruled (descriptors_in run))
 
-unfoldable pub filled_with : List Luacd → Filled
-filled_with ls = record { luacds = pad no_luacd max_luacds (take max_luacds ls); count = length ls }
-
--- one LUACD more; behind the 16th it is counted alone
-unfoldable pub joined_to : Filled → Luacd → Filled
-joined_to f p =
-    record { luacds = cond (ltb f.count max_luacds) (set f.luacds f.count p) f.luacds; count = f.count + 1 }
+-- LUACDs as a table, or that it has no room for them
+unfoldable pub listed_in : List Luacd → Result (Table Luacd max_luacds) Condition
+listed_in ls = cond (ltb max_luacds (length ls)) (Err NoRoom) (Ok (filled no_luacd max_luacds ls))

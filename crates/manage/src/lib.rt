@@ -6,3 +6,4 @@ pub mod command;
 pub mod enrolments;
 pub mod live;
 pub mod luacds;
+pub mod room;

@@ -2,15 +2,16 @@
 use Prim.Native.Nat.{ℕ, suc, ◌+◌, ◌-◌, ◌≤◌}
 use mathlib.Core.Path.{◌≡◌, refl, ap, sym, ◌∙◌, subst}
 use mathlib.Core.List.{List, [], ◌∷◌, ◌++◌, append_assoc, append-nil}
-use mathlib.Core.Bool.{Bool, true, false, cond, ◌&&◌}
+use mathlib.Core.Bool.{Bool, true, false, cond}
 use native.Mathlib.Omega.{arith}
 use native.Mathlib.Numerals.{add-one}
 use lib.ListN.{length, take, drop, length-take, length-drop}
-use lib.Seq.{take_all, take-add}
+use lib.Seq.{take_all}
 use lib.Dec.{ltb}
 use borrow.Author.Tests.{ltb-true, ltb-false, lt-ltb, eq-eqb, ne_eqb}
+use Rattle.std.proofs.lemmas.List.{take-append-drop, nil_from_length}
 use Rattle.lists.specs.Lists.{any, place_of, parts}
-use Rattle.lists.proofs.Tests.{split, clashes, or_false, and_true}
+use Rattle.lists.proofs.Tests.{split, clashes, or_false}
 use Rattle.lists.proofs.Members.{place_some, place_none}
 use Rattle.paper.specs.Fresh.{nothing, fresh, started}
 use Rattle.paper.specs.Setup.{accepted, ids_in, luns_in}
@@ -22,7 +23,7 @@ use Rattle.journal.proofs.Taking.{cut_twice}
 use Rattle.audit.specs.Following.{kept_in, followed, Auditing, answered, lengthened, fed, ended}
 use Rattle.audit.specs.declared.following.Inquiry.{Inquiry}
 use Rattle.oberkosz.specs.Places.{is_audit, inquiry_of, At}
-use Rattle.oberkosz.specs.declared.step.Task.{Task}
+use Rattle.oberkosz.specs.declared.task.Task.{Task}
 use Rattle.oberkosz.specs.declared.step.Place.{Place}
 
 -- ---- of a line that is too long its first bytes tell as much
@@ -48,7 +49,7 @@ line_of x l =
     }
 
 fed_within : (q : Inquiry) (x : Auditing) (s : List ℕ) → any is_end s ≡ false → fed q x s ≡ line_of x (x.replaying.line ++ s)
-unfolding fed any
+unfolding fed
 fed_within q x [] e = ap (line_of x) (sym (append-nil x.replaying.line))
 fed_within q x (b ∷ s) e =
     let (here, rest) = or_false (is_end b) (any is_end s) e in
@@ -56,7 +57,7 @@ fed_within q x (b ∷ s) e =
 
 -- bytes up to the end of a line, with it
 fed_whole : (q : Inquiry) (x : Auditing) (s : List ℕ) → any is_end s ≡ true → fed q x (take (place_of is_end s + 1) s) ≡ answered q (line_of x (x.replaying.line ++ before_end s))
-unfolding fed any place_of
+unfolding fed place_of
 fed_whole q x [] e = clashes e refl
 fed_whole q x (b ∷ s) e =
     split (is_end b)
@@ -64,11 +65,6 @@ fed_whole q x (b ∷ s) e =
     (λ h.
     rw (h, add-one (suc (place_of is_end s)))
     (rw (h, fed) (ap (λ n. fed q (lengthened x b) (take n s)) (sym (add-one (place_of is_end s))) ∙ (fed_whole q (lengthened x b) s (rw h at e) ∙ ap (λ l. answered q (line_of x l)) (append_assoc x.replaying.line (b ∷ []) (before_end s))))))
-
--- ---- the program goes on: it went on before, and there was room
-pub all_going : {r : Bool} (a b c : Bool) → r ≡ (a && (b && c)) → r ≡ true → (a ≡ true) × (c ≡ true)
-all_going {r} a b c e going =
-    let on = and_true a (b && c) (sym e ∙ going) in (on.0, (and_true b c on.1).1)
 
 -- ---- a line that was answered and followed is where the audit is
 module _ (task : Task) (p r : Place) (standing ended standing' ended' : List ℕ) (l : List ℕ) where
@@ -78,9 +74,9 @@ module _ (task : Task) (p r : Place) (standing ended standing' ended' : List ℕ
   -- what `step` says of it
   abbrev KeptOn : Type 0
   KeptOn =
-      is_audit task.kind ≡ true → r.going ≡ true → (p.going ≡ true) × (kept_in r.grounds standing' ended' ≡ followed i p.number (read_line l) r.state (kept_in p.grounds standing ended))
+      is_audit task ≡ true → r.going ≡ true → (p.going ≡ true) × (kept_in r.grounds standing' ended' ≡ followed i p.number (read_line l) r.state (kept_in p.grounds standing ended))
 
-  pub answered_at : r.state ≡ (step_line p.state p.number (read_line l)).state → r.number ≡ p.number + 1 → r.used ≡ 0 → KeptOn → (x : Auditing) → p.state ≡ x.replaying.state → p.number ≡ x.replaying.number → (is_audit task.kind ≡ true → p.going ≡ true → kept_in p.grounds standing ended ≡ x.kept) → read_line l ≡ read_line x.replaying.line → {line : List ℕ} → At task r line standing' ended' (answered i x)
+  pub answered_at : r.state ≡ (step_line p.state p.number (read_line l)).state → r.number ≡ p.number + 1 → r.used ≡ 0 → KeptOn → (x : Auditing) → p.state ≡ x.replaying.state → p.number ≡ x.replaying.number → (is_audit task ≡ true → p.going ≡ true → kept_in p.grounds standing ended ≡ x.kept) → read_line l ≡ read_line x.replaying.line → {line : List ℕ} → At task r line standing' ended' (answered i x)
   answered_at stepped number size on x same count grounds read {line} =
       let state : r.state ≡ (answered i x).replaying.state = stepped ∙ rw (same, count, read) refl in
       record {
@@ -152,30 +148,23 @@ some_read old chunk b eaten line used t h = go b t.whole t.read
     go true e r = (omega (arith, r), omega (arith, r, place_some is_end chunk (sym e)))
     go false e r = (omega (arith, r, h), omega (arith, r))
 
--- ---- a chunk, part after part
--- what is left of it, as it is handed on
-abbrev pub rest_of : ℕ → List ℕ → List ℕ
-rest_of k chunk = take (length chunk - k) (drop k chunk)
+-- ---- a chunk, part after part: where the program is, the rest of the chunk leads on to where all of it leads
+pub record Reached (task : Task) (q : Place) (line standing ended₀ rest : List ℕ) (whole : Auditing) : Type 0 where
+  pub here : Auditing
+  pub at : At task q line standing ended₀ here
+  pub on : fed (inquiry_of task) here rest ≡ whole
 
-pub rest_length : (k : ℕ) (chunk : List ℕ) → length (rest_of k chunk) ≡ length chunk - k
-rest_length k chunk = omega (arith, length-take (length chunk - k) (drop k chunk), length-drop k chunk)
-
-module _ (task : Task) (q : Place) (line standing ended₀ : List ℕ) (x : Auditing) (chunk : List ℕ) where
-  -- where the program is after the first bytes of it
-  abbrev pub AtPart : ℕ → Type 0
-  AtPart k = At task q line standing ended₀ (fed (inquiry_of task) x (take k chunk))
-
-  pub fed_none : At task q line standing ended₀ x → AtPart 0
-  unfolding fed
-  fed_none a = a
-
-  pub fed_more : (k n : ℕ) → At task q line standing ended₀ (fed (inquiry_of task) (fed (inquiry_of task) x (take k chunk)) (take n (rest_of k chunk))) → AtPart (k + n)
-  fed_more k n a =
+module _ {task : Task} {q : Place} {line standing ended₀ : List ℕ} where
+  pub reached_next : {q' : Place} {line' standing' ended' rest : List ℕ} {whole : Auditing} (n : ℕ) → (r : Reached task q line standing ended₀ rest whole) → At task q' line' standing' ended' (fed (inquiry_of task) r.here (take n rest)) → Reached task q' line' standing' ended' (take (length rest - n) (drop n rest)) whole
+  reached_next {rest = rest} n r a =
       let i = inquiry_of task in
-      let whole : rest_of k chunk ≡ drop k chunk = take_all (length chunk - k) (drop k chunk) (omega (arith, length-drop k chunk)) in
-      subst (λ y. At task q line standing ended₀ y)
-      (ap (λ s. fed i (fed i x (take k chunk)) (take n s)) whole
-      ∙ (sym (fed_append i x (take k chunk) (take n (drop k chunk))) ∙ ap (fed i x) (sym (take-add k n chunk)))) a
+      let all : take (length rest - n) (drop n rest) ≡ drop n rest = take_all (length rest - n) (drop n rest) (omega (arith, length-drop n rest)) in
+      record {
+        here = fed i r.here (take n rest);
+        at = a;
+        on = ap (fed i (fed i r.here (take n rest))) all ∙ sym (fed_append i r.here (take n rest) (drop n rest)) ∙ ap (fed i r.here) (take-append-drop n rest) ∙ r.on;
+      }
 
-  pub fed_all : (k : ℕ) → length chunk ≤ k → AtPart k → At task q line standing ended₀ (fed (inquiry_of task) x chunk)
-  fed_all k h a = subst (λ y. At task q line standing ended₀ (fed (inquiry_of task) x y)) (take_all k chunk h) a
+  pub reached_last : {rest : List ℕ} {whole : Auditing} → length rest ≡ 0 → Reached task q line standing ended₀ rest whole → At task q line standing ended₀ whole
+  unfolding fed
+  reached_last {rest} e r = subst (λ y. At task q line standing ended₀ y) (ap (fed (inquiry_of task) r.here) (sym (nil_from_length rest e)) ∙ r.on) r.at

@@ -1,2 +1,1 @@
-pub mod Buffers
 pub mod Places

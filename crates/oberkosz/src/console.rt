@@ -23,6 +23,7 @@ pub struct Console<O: Write, E: Write> {
 }
 
 // Keeps what failed, to be told at the end; whether nothing did.
+// Stays: after a failed write a line's grounds are still followed, and the last failure is told at the end, so nothing returns early.
 pub fn note<O: Write, E: Write>(console: &mut Console<O, E>, outcome: io::Result<()>) -> bool
     ensures good { result ≡ is_ok outcome }
     ensures same { OnOk outcome (console.new ≡ console.old) }

@@ -3,7 +3,7 @@ use showing::out;
 use std::io;
 use std::io::Write;
 
-fn tell_to<W: Write>(to: &mut W) -> io::Result<()> {
+pub fn tell<W: Write>(to: &mut W) -> io::Result<()> {
     out::write(
         to,
         b"oberkosz: who could open which unit of a shared disk shelf, told from a journal on standard input\n",
@@ -36,14 +36,10 @@ fn tell_to<W: Write>(to: &mut W) -> io::Result<()> {
     )
 }
 
-pub fn tell<W: Write>(to: &mut W) -> io::Result<()> {
-    tell_to(to)
-}
-
 // What is wrong with the words, and how to use the program.
 pub fn wrong<W: Write>(to: &mut W, message: &[u8]) -> io::Result<()> {
     out::write(to, b"oberkosz: ")?;
     out::write(to, message)?;
     out::write(to, b"\n\n")?;
-    tell_to(to)
+    tell(to)
 }

@@ -1,35 +1,35 @@
 // The journal on standard input, in chunks, whatever their ends cut.
 ghost use Rattle.std.specs.Prelude.{◌≡◌, true, false, List, ℕ, ◌+◌, ◌≤◌, length, take};
+ghost use Rattle.std.specs.ControlFlow.{MatchControlFlow};
 ghost use Rattle.audit.specs.Following.{Auditing, begun, fed, ended as atEnd};
-ghost use Rattle.oberkosz.specs.Buffers.{Lent};
 ghost use Rattle.oberkosz.specs.Places.{inquiry_of, At, Sound};
-ghost use Rattle.oberkosz.specs.declared.step.Task.{Task};
+ghost use Rattle.oberkosz.specs.declared.task.Task.{Task};
 
+use crate::buffers::Buffers;
 use crate::console::{Console, Failure};
-use crate::step::{Place, Task};
-use crate::{buffers, console, show, step};
-use audit::following::Grounds;
+use crate::step::Place;
+use crate::task::Task;
+use crate::{console, show, step};
+use audit::ledger::Grounds;
 use coordinator::setup;
 use journal::lines;
 use std::io::{Read, Write};
+use std::ops::ControlFlow;
 
 // "Before the first setup the coordinator is the one that a refused setup leaves"
 fn begun() -> Place
     ensures sound { Sound result × (result.number ≡ 1) }
     ensures at { (task : Task) (line standing ended : List ℕ) → At task result line standing ended begun }
 {
-    let started = setup::setup(b"", b"");
-    let state = started.state;
-    let grounds = Grounds {
-        standing: 0,
-        ended: 0,
-    };
     Place {
-        state: state,
+        state: setup::setup(b"", b"").state,
         number: 1,
         used: 0,
         going: true,
-        grounds: grounds,
+        grounds: Grounds {
+            standing: 0,
+            ended: 0,
+        },
     }
 }
 
@@ -46,53 +46,23 @@ fn one_line<O: Write, E: Write>(
     task: Task,
     p: Place,
     chunk: &[u8],
-    line: &mut [u8],
-    first: &mut [u8],
-    second: &mut [u8],
-    reply: &mut [u8],
-    text: &mut [u8],
-    standing: &mut [u8],
-    ended: &mut [u8],
+    buffers: &mut Buffers,
 ) -> Part
-    requires lent { Lent first.old second.old reply.old text.old standing.old ended.old }
-    requires in_bounds { (262145 ≤ length line.old) × Sound p × (1 ≤ length chunk.now) × (p.number + 1 ≤ 18446744073709551615) }
+    requires { Sound p × (1 ≤ length chunk.now) × (p.number + 1 ≤ 18446744073709551615) }
     ensures sound { Sound result.place × (result.place.number ≤ p.number + 1) × (1 ≤ result.eaten) × (result.eaten ≤ length chunk.now) }
-    ensures fed { (x : Auditing) → At task p line.old standing.old ended.old x → At task result.place line.new standing.new ended.new (fed (inquiry_of task) x (take result.eaten chunk.now)) }
+    ensures fed { (x : Auditing) → At task p buffers.old.line buffers.old.standing buffers.old.ended x → At task result.place buffers.new.line buffers.new.standing buffers.new.ended (fed (inquiry_of task) x (take result.eaten chunk.now)) }
 {
-    let taken = lines::take_in(line, p.used, chunk);
-    let size = taken.used;
+    let taken = lines::take_in(&mut buffers.line, p.used, chunk);
     let eaten = taken.eaten;
-    let state = p.state;
-    let grounds = p.grounds;
-    let q = Place {
-        state: state,
-        number: p.number,
-        used: size,
-        going: p.going,
-        grounds: grounds,
+    let part = Place {
+        used: taken.used,
+        ..p
     };
     if !taken.ended {
-        return Part {
-            place: q,
-            eaten: eaten,
-        };
+        return Part { place: part, eaten };
     }
-    let done = step::step(
-        to,
-        task,
-        q,
-        &line[..size],
-        first,
-        second,
-        reply,
-        text,
-        standing,
-        ended,
-    );
-    Part {
-        place: done,
-        eaten: eaten,
-    }
+    let done = step::step(to, task, part, buffers);
+    Part { place: done, eaten }
 }
 
 // A chunk, line by line, unless the output fails.
@@ -101,42 +71,21 @@ fn fed<O: Write, E: Write>(
     task: Task,
     p: Place,
     chunk: &[u8],
-    line: &mut [u8],
-    first: &mut [u8],
-    second: &mut [u8],
-    reply: &mut [u8],
-    text: &mut [u8],
-    standing: &mut [u8],
-    ended: &mut [u8],
+    buffers: &mut Buffers,
 ) -> Place
-    requires lent { Lent first.old second.old reply.old text.old standing.old ended.old }
-    requires in_bounds { (262145 ≤ length line.old) × Sound p × (p.number + length chunk.now ≤ 18446744073709551615) }
+    requires { Sound p × (p.number + length chunk.now ≤ 18446744073709551615) }
     ensures sound { Sound result × (result.number ≤ p.number + length chunk.now) }
-    ensures fed { (x : Auditing) → At task p line.old standing.old ended.old x → result.going ≡ true → At task result line.new standing.new ended.new (fed (inquiry_of task) x chunk.now) }
+    ensures fed { (x : Auditing) → At task p buffers.old.line buffers.old.standing buffers.old.ended x → result.going ≡ true → At task result buffers.new.line buffers.new.standing buffers.new.ended (fed (inquiry_of task) x chunk.now) }
 {
     let mut q = p;
-    let mut k = 0;
-    while k < chunk.len() {
-        let part = one_line(
-            to,
-            task,
-            q,
-            &chunk[k..],
-            line,
-            first,
-            second,
-            reply,
-            text,
-            standing,
-            ended,
-        );
-        let place = part.place;
-        if !place.going {
-            return place;
+    let mut rest = chunk;
+    while !rest.is_empty() {
+        let part = one_line(to, task, q, rest, buffers);
+        if !part.place.going {
+            return part.place;
         }
-        q = place;
-        let eaten = part.eaten;
-        k += eaten;
+        q = part.place;
+        rest = &rest[part.eaten..];
     }
     q
 }
@@ -146,172 +95,78 @@ fn last_line<O: Write, E: Write>(
     to: &mut Console<O, E>,
     task: Task,
     p: Place,
-    line: &mut [u8],
-    first: &mut [u8],
-    second: &mut [u8],
-    reply: &mut [u8],
-    text: &mut [u8],
-    standing: &mut [u8],
-    ended: &mut [u8],
+    buffers: &mut Buffers,
 ) -> Place
-    requires lent { Lent first.old second.old reply.old text.old standing.old ended.old }
-    requires in_bounds { (262145 ≤ length line.old) × Sound p × (p.number + 1 ≤ 18446744073709551615) }
+    requires { Sound p × (p.number + 1 ≤ 18446744073709551615) }
     ensures sound { Sound result }
-    ensures ended { (x : Auditing) → At task p line.old standing.old ended.old x → At task result line.new standing.new ended.new (atEnd (inquiry_of task) x) }
+    ensures ended { (x : Auditing) → At task p buffers.old.line buffers.old.standing buffers.old.ended x → At task result buffers.new.line buffers.new.standing buffers.new.ended (atEnd (inquiry_of task) x) }
 {
-    let size = p.used;
-    if size == 0 {
+    if p.used == 0 {
         return p;
     }
-    step::step(
-        to,
-        task,
-        p,
-        &line[..size],
-        first,
-        second,
-        reply,
-        text,
-        standing,
-        ended,
-    )
-}
-
-// Where the program is after a read, and whether to read on.
-#[derive(Clone, Copy)]
-struct Turn {
-    place: Place,
-    more: bool,
+    step::step(to, task, p, buffers)
 }
 
 // What was read of a journal that cannot be read on says nothing of the whole: nothing is shown.
 fn stopped(p: Place) -> Place
     ensures { (result.used ≡ p.used) × (result.grounds ≡ p.grounds) × (result.going ≡ false) }
 {
-    let state = p.state;
-    let grounds = p.grounds;
-    Place {
-        state: state,
-        number: p.number,
-        used: p.used,
-        going: false,
-        grounds: grounds,
-    }
+    Place { going: false, ..p }
 }
 
-// One read of the journal, and what it brings; at its end the last line.
+// One read of the journal, and what it brings; at its end the last line. Where the program is after it, and whether to read on.
 fn one_chunk<I: Read, O: Write, E: Write>(
     input: &mut I,
     to: &mut Console<O, E>,
     task: Task,
     p: Place,
-    chunk: &mut [u8],
-    line: &mut [u8],
-    first: &mut [u8],
-    second: &mut [u8],
-    reply: &mut [u8],
-    text: &mut [u8],
-    standing: &mut [u8],
-    ended: &mut [u8],
-) -> Turn
-    requires lent { Lent first.old second.old reply.old text.old standing.old ended.old }
-    requires in_bounds { (262145 ≤ length line.old) × (length chunk.old ≡ 65536) × Sound p × (p.number + 65536 ≤ 18446744073709551615) }
-    ensures { Sound result.place × (result.more ≡ true → result.place.number ≤ p.number + 65536) }
+    chunk: &mut [u8; 65536],
+    buffers: &mut Buffers,
+) -> ControlFlow<Place, Place>
+    requires { Sound p × (p.number + 65536 ≤ 18446744073709551615) }
+    ensures { MatchControlFlow result (λ q. Sound q × (q.number ≤ p.number + 65536)) (λ q. Sound q) }
 {
     let n = match input.read(chunk) {
         Ok(n) => n,
         Err(error) => {
             to.failure = Some(Failure::Reading(error));
-            return Turn {
-                place: stopped(p),
-                more: false,
-            };
+            return ControlFlow::Break(stopped(p));
         }
     };
     if n == 0 {
-        let done = last_line(
-            to, task, p, line, first, second, reply, text, standing, ended,
-        );
-        return Turn {
-            place: done,
-            more: false,
-        };
+        return ControlFlow::Break(last_line(to, task, p, buffers));
     }
-    let place = fed(
-        to,
-        task,
-        p,
-        &chunk[..n],
-        line,
-        first,
-        second,
-        reply,
-        text,
-        standing,
-        ended,
-    );
-    Turn {
-        place: place,
-        more: place.going,
+    let place = fed(to, task, p, &chunk[..n], buffers);
+    if place.going {
+        ControlFlow::Continue(place)
+    } else {
+        ControlFlow::Break(place)
     }
 }
 
-// Reads the journal to its end. A proved loop has to end, and nothing says that an input does: so it counts its turns down, from a number that no run uses up, and that keeps the number of lines below 2^64.
+// Reads the journal to its end. A proved loop has to end, and nothing says that an input does: so it counts its turns, up to a number that no run reaches, and that keeps the number of lines below 2^64.
 fn read_through<I: Read, O: Write, E: Write>(
     input: &mut I,
     to: &mut Console<O, E>,
     task: Task,
-    chunk: &mut [u8],
-    line: &mut [u8],
-    first: &mut [u8],
-    second: &mut [u8],
-    reply: &mut [u8],
-    text: &mut [u8],
-    standing: &mut [u8],
-    ended: &mut [u8],
+    buffers: &mut Buffers,
 ) -> Place
-    requires lent { Lent first.old second.old reply.old text.old standing.old ended.old }
-    requires in_bounds { (262145 ≤ length line.old) × (length chunk.old ≡ 65536) }
     ensures { Sound result }
 {
+    let mut chunk = [0; 65536];
     let mut p = begun();
-    let mut turns: u64 = 281474976710654;
-    while 0 < turns {
-        let turn = one_chunk(
-            input, to, task, p, chunk, line, first, second, reply, text, standing, ended,
-        );
-        let place = turn.place;
-        if !turn.more {
-            return place;
+    for turn in 0..281474976710654u64 {
+        match one_chunk(input, to, task, p, &mut chunk, buffers) {
+            ControlFlow::Continue(place) => p = place,
+            ControlFlow::Break(place) => return place,
         }
-        p = place;
-        turns -= 1;
     }
     p
 }
 
 pub fn run<I: Read, O: Write, E: Write>(task: Task, input: &mut I, to: &mut Console<O, E>) {
-    let mut chunk = buffers::for_chunk();
-    let mut line = buffers::for_line();
-    let mut first = buffers::for_bytes();
-    let mut second = buffers::for_bytes();
-    let mut reply = buffers::for_chunk();
-    let mut text = buffers::for_text();
-    let mut standing = buffers::for_chunk();
-    let mut ended = buffers::for_ended();
-    let p = read_through(
-        input,
-        to,
-        task,
-        &mut chunk,
-        &mut line,
-        &mut first,
-        &mut second,
-        &mut reply,
-        &mut text,
-        &mut standing,
-        &mut ended,
-    );
-    let shown = show::show(&mut to.output, task, p, &standing, &ended, &mut text);
+    let mut buffers = Buffers::new();
+    let p = read_through(input, to, task, &mut buffers);
+    let shown = show::show(&mut to.output, task, p, &mut buffers);
     console::note(to, shown);
 }

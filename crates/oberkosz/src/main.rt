@@ -8,37 +8,27 @@ mod help;
 mod input;
 mod show;
 mod step;
+mod task;
 mod words;
 
 use console::Console;
-use std::io;
 use std::io::{Read, Write};
-use step::{Kind, Task};
+use task::Task;
+use words::Wrong;
 
-// How to use the program, and what was wrong with the words.
-fn helped<O: Write, E: Write>(to: &mut Console<O, E>, kind: Kind) -> io::Result<()> {
-    match kind {
-        Kind::NoTask => help::wrong(&mut to.errors, b"expected replay, audit, acl or help"),
-        Kind::NoUnit => help::wrong(
-            &mut to.errors,
-            b"audit: expected the number of a unit, 0 to 31",
-        ),
-        Kind::NoLines => help::wrong(
-            &mut to.errors,
-            b"audit: expected UNIT, or UNIT FROM TO with line numbers from 1 on and FROM up to TO, and then tsv or nothing",
-        ),
-        _ => help::tell(&mut to.output),
-    }
-}
-
-fn run<I: Read, O: Write, E: Write>(task: Task, input: &mut I, to: &mut Console<O, E>) {
-    let kind = task.kind;
-    match kind {
-        Kind::Replay => input::run(task, input, to),
-        Kind::Audit => input::run(task, input, to),
-        Kind::Acl => input::run(task, input, to),
-        _ => {
-            let outcome = helped(to, kind);
+fn run<I: Read, O: Write, E: Write>(
+    asked: Result<Option<Task>, Wrong>,
+    input: &mut I,
+    to: &mut Console<O, E>,
+) {
+    match asked {
+        Ok(Some(task)) => input::run(task, input, to),
+        Ok(None) => {
+            let outcome = help::tell(&mut to.output);
+            console::note(to, outcome);
+        }
+        Err(wrong) => {
+            let outcome = help::wrong(&mut to.errors, wrong.message());
             console::note(to, outcome);
         }
     }
@@ -46,13 +36,13 @@ fn run<I: Read, O: Write, E: Write>(task: Task, input: &mut I, to: &mut Console<
 
 // The program has no exit status of its own: what went wrong stands on standard error, and where that fails too, nothing is left to say it.
 fn main(rt: HostRuntime) {
-    let task = words::asked(&rt);
+    let asked = words::asked(&rt);
     let mut to = Console {
         output: rt.stdout(),
         errors: rt.stderr(),
         failure: None,
     };
-    run(task, &mut rt.stdin(), &mut to);
+    run(asked, &mut rt.stdin(), &mut to);
     if let Some(failure) = to.failure {
         let _ = console::tell(&rt, failure);
     }

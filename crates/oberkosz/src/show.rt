@@ -1,64 +1,41 @@
 // What the task asks for is shown once the journal is read.
-ghost use Rattle.std.specs.Prelude.{◌≡◌, ◌≤◌, length};
 ghost use Rattle.oberkosz.specs.Places.{Sound};
 
-use crate::step::{Kind, Place, Task};
-use audit::cells::Asked;
+use crate::buffers::Buffers;
+use crate::step::Place;
+use crate::task::{Audit, Task};
+use audit::cells::Audited;
 use showing::shown;
 use std::io;
 use std::io::Write;
 
-// The lines asked for: all of the journal, where none are named.
-fn asked_of(task: Task, next: u64) -> Asked {
-    let last = if next == 0 { 0 } else { next - 1 };
-    Asked {
-        from: task.from,
-        to: if task.named { task.to } else { last },
-        last: last,
-    }
-}
-
 // The audit of a unit, as a table with its answer or for spreadsheets.
-fn audit<W: Write>(
-    to: &mut W,
-    task: Task,
-    p: Place,
-    standing: &[u8],
-    ended: &[u8],
-    text: &mut [u8],
-) -> io::Result<()>
-    requires { (length standing.now ≡ 65536) × (length ended.now ≡ 393216) × Sound p × (140000 ≤ length text.old) }
+fn show_audit<W: Write>(to: &mut W, audit: Audit, p: Place, buffers: &mut Buffers) -> io::Result<()>
+    requires { Sound p }
 {
-    let grounds = p.grounds;
-    let n = grounds.standing;
-    let m = grounds.ended;
-    let a = asked_of(task, p.number);
-    if task.tsv {
-        return shown::show_table(to, a, true, &ended[..m], &standing[..n], text);
+    let audited = Audited {
+        asked: audit.asked(p.number),
+        ended: &buffers.ended[..p.grounds.ended],
+        standing: &buffers.standing[..p.grounds.standing],
+    };
+    let text = &mut buffers.text;
+    if audit.tsv {
+        shown::show_table(to, true, &audited, text)
+    } else {
+        shown::show_audit(to, audit.unit, p.state, &audited, text)
     }
-    let state = p.state;
-    shown::show_audit(to, a, task.unit, state, &ended[..m], &standing[..n], text)
 }
 
 // What the task asks for of the journal.
-pub fn show<W: Write>(
-    to: &mut W,
-    task: Task,
-    p: Place,
-    standing: &[u8],
-    ended: &[u8],
-    text: &mut [u8],
-) -> io::Result<()>
-    requires { (length standing.now ≡ 65536) × (length ended.now ≡ 393216) × Sound p × (140000 ≤ length text.old) }
+pub fn show<W: Write>(to: &mut W, task: Task, p: Place, buffers: &mut Buffers) -> io::Result<()>
+    requires { Sound p }
 {
     if !p.going {
         return Ok(());
     }
-    let kind = task.kind;
-    let c = p.state;
-    match kind {
-        Kind::Audit => audit(to, task, p, standing, ended, text),
-        Kind::Acl => shown::show_state(to, c, text),
-        _ => Ok(()),
+    match task {
+        Task::Audit(audit) => show_audit(to, audit, p, buffers),
+        Task::Acl => shown::show_state(to, p.state, &mut buffers.text),
+        Task::Replay => Ok(()),
     }
 }

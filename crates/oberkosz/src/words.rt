@@ -1,19 +1,26 @@
 // The words that the program was started with.
 ghost use Rattle.std.specs.Prelude.{◌≤◌};
 
-use crate::step::{Kind, Task};
+use crate::task::{Audit, Lines, Task};
 use journal::kinds;
-use journal::kinds::Numbered;
 use std::env::{Env, FillError};
 
-fn plain(kind: Kind) -> Task {
-    Task {
-        kind: kind,
-        tsv: false,
-        unit: 0,
-        from: 1,
-        to: 18446744073709551615,
-        named: false,
+// What is wrong with the words.
+#[derive(Clone, Copy)]
+pub enum Wrong {
+    NoTask,
+    NoUnit,
+    NoLines,
+}
+
+impl Wrong {
+    pub fn message(self) -> &'static [u8] {
+        match self {
+            Wrong::NoTask => b"expected replay, audit, acl or help",
+            Wrong::NoUnit => b"audit: expected the number of a unit, 0 to 31",
+            Wrong::NoLines =>
+                b"audit: expected UNIT, or UNIT FROM TO with line numbers from 1 on and FROM up to TO, and then tsv or nothing",
+        }
     }
 }
 
@@ -32,103 +39,75 @@ fn count_of<A: Env>(arguments: &A) -> usize {
 fn is_word<A: Env>(arguments: &A, i: usize, word: &[u8]) -> bool {
     let mut space = [0; 4096];
     match arguments.arg(i, &mut space) {
-        Ok(n) => n == word.len() && wire::same(&space, word, n),
+        Ok(n) => &space[..n] == word,
         Err(_) => false,
     }
 }
 
-// The number that stands at a place; none fits where there is no number.
-fn number_at<A: Env>(arguments: &A, i: usize) -> Numbered {
+// The number that stands at a place, if one does that fits.
+fn number_at<A: Env>(arguments: &A, i: usize) -> Option<u64> {
     let mut space = [0; 4096];
-    match arguments.arg(i, &mut space) {
-        Ok(n) => kinds::number(&space[..n]),
-        Err(_) => kinds::number(b""),
-    }
+    let n = arguments.arg(i, &mut space).ok()?;
+    kinds::number(&space[..n])
 }
 
 // `audit UNIT [FROM TO] [tsv]`, of so many words.
-fn audit<A: Env>(arguments: &A, words: usize) -> Task
-    requires { 3 ≤ words }
+fn audit<A: Env>(arguments: &A, words: usize) -> Result<Audit, Wrong>
+    requires { 2 ≤ words }
 {
-    let unit = number_at(arguments, 2);
-    if !unit.fits {
-        return plain(Kind::NoUnit);
-    }
-    if 31 < unit.value {
-        return plain(Kind::NoUnit);
-    }
+    let unit = match number_at(arguments, 2) {
+        Some(unit) if 2 < words && unit < 32 => unit as u8,
+        _ => return Err(Wrong::NoUnit),
+    };
     let tsv = is_word(arguments, words - 1, b"tsv");
-    let left = if tsv { words - 1 } else { words };
-    audit_lines(arguments, left, unit.value as u8, tsv)
+    let lines = lines(arguments, if tsv { words - 1 } else { words })?;
+    Ok(Audit { unit, lines, tsv })
 }
 
-// The lines of an audit: all, or FROM to TO.
-fn audit_lines<A: Env>(arguments: &A, words: usize, unit: u8, tsv: bool) -> Task {
-    if words == 3 {
-        return Task {
-            kind: Kind::Audit,
-            tsv: tsv,
-            unit: unit,
-            from: 1,
-            to: 18446744073709551615,
-            named: false,
-        };
-    }
-    if words != 5 {
-        return plain(Kind::NoLines);
-    }
-    let from = number_at(arguments, 3);
-    let to = number_at(arguments, 4);
-    if !from.fits {
-        return plain(Kind::NoLines);
-    }
-    if !to.fits {
-        return plain(Kind::NoLines);
-    }
-    if from.value == 0 {
-        return plain(Kind::NoLines);
-    }
-    if to.value < from.value {
-        return plain(Kind::NoLines);
-    }
-    Task {
-        kind: Kind::Audit,
-        tsv: tsv,
-        unit: unit,
-        from: from.value,
-        to: to.value,
-        named: true,
+// The lines of an audit, if they are named.
+fn lines<A: Env>(arguments: &A, words: usize) -> Result<Option<Lines>, Wrong> {
+    match words {
+        3 => Ok(None),
+        5 => Ok(Some(named_lines(arguments).ok_or(Wrong::NoLines)?)),
+        _ => Err(Wrong::NoLines),
     }
 }
 
-// The task that is one word.
-fn task_of<A: Env>(arguments: &A) -> Kind {
+// FROM to TO, if both are numbers of lines, in order.
+fn named_lines<A: Env>(arguments: &A) -> Option<Lines> {
+    let from = number_at(arguments, 3)?;
+    let to = number_at(arguments, 4)?;
+    if 0 < from && from <= to {
+        Some(Lines { from, to })
+    } else {
+        None
+    }
+}
+
+// The task that is one word; none, where that asks for help.
+fn task_of<A: Env>(arguments: &A) -> Result<Option<Task>, Wrong> {
     if is_word(arguments, 1, b"replay") {
-        return Kind::Replay;
+        Ok(Some(Task::Replay))
+    } else if is_word(arguments, 1, b"acl") {
+        Ok(Some(Task::Acl))
+    } else if is_word(arguments, 1, b"help") {
+        Ok(None)
+    } else {
+        Err(Wrong::NoTask)
     }
-    if is_word(arguments, 1, b"acl") {
-        return Kind::Acl;
-    }
-    if is_word(arguments, 1, b"help") {
-        return Kind::Help;
-    }
-    Kind::NoTask
 }
 
-// What the words ask for.
-pub fn asked<A: Env>(arguments: &A) -> Task {
+// What the words ask for; no task, where there are none or they ask for help.
+pub fn asked<A: Env>(arguments: &A) -> Result<Option<Task>, Wrong> {
     let words = count_of(arguments);
     if words < 2 {
-        return plain(Kind::Help);
+        return Ok(None);
     }
     if is_word(arguments, 1, b"audit") {
-        if words < 3 {
-            return plain(Kind::NoUnit);
-        }
-        return audit(arguments, words);
+        return Ok(Some(Task::Audit(audit(arguments, words)?)));
     }
     if 2 < words {
-        return plain(Kind::NoTask);
+        return Err(Wrong::NoTask);
     }
-    plain(task_of(arguments))
+    task_of(arguments)
 }

@@ -1,8 +1,9 @@
 // The header of a MANAGE ACL list, and the pages behind it.
 ghost use Rattle.std.specs.Prelude.{◌≡◌, drop};
-ghost use Rattle.paper.specs.Pages.{key_in, new_key_in, flush_in, generation_in, list_head};
+ghost use Rattle.paper.specs.Pages.{key_in, new_key_in, flush_in, generation_in, list_head, ace_pages};
 
 use crate::page;
+use crate::walks::{self, Pages};
 
 pub fn key_in(list: &[u8]) -> u64
     ensures { result ≡ key_in list.now }
@@ -19,7 +20,7 @@ pub fn new_key_in(list: &[u8]) -> u64
 pub fn flush_in(list: &[u8]) -> bool
     ensures { result ≡ flush_in list.now }
 {
-    wire::byte(list, 21) / 128 % 2 == 1
+    page::top_bit(wire::byte(list, 21))
 }
 
 pub fn generation_in(list: &[u8]) -> u32
@@ -32,5 +33,12 @@ pub fn generation_in(list: &[u8]) -> u32
 pub fn pages_in(list: &[u8]) -> &[u8]
     ensures { result.now ≡ drop list_head list.now }
 {
-    page::bytes_from(list, 28)
+    lists::behind(list, 28)
+}
+
+#[tactic(auto, unfolding(paper::specs::Pages::ace_pages))]
+pub fn pages(list: &[u8]) -> Pages<'_>
+    ensures { result ≡ ace_pages list.now }
+{
+    walks::pages_of(pages_in(list))
 }

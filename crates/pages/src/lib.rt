@@ -5,4 +5,5 @@ pub mod form;
 pub mod header;
 pub mod page;
 pub mod places;
+pub mod walks;
 pub mod whole;

@@ -6,6 +6,7 @@ ghost use Rattle.paper.specs.Pages.{ace_pages};
 
 use crate::{header, page};
 
+#[tactic(auto, unfolding(lists::specs::Pages::whole_page))]
 fn whole_page(page: &[u8]) -> bool
     ensures { result ≡ whole_page page.now }
 {
@@ -15,13 +16,5 @@ fn whole_page(page: &[u8]) -> bool
 pub fn all_whole(list: &[u8]) -> bool
     ensures { result ≡ all whole_page (ace_pages list.now) }
 {
-    let mut rest = header::pages_in(list);
-    while rest.len() > 0 {
-        if !whole_page(page::first_page(rest)) {
-            return false;
-        }
-        let later = page::after_page(rest);
-        rest = later;
-    }
-    true
+    header::pages(list).all(|page| whole_page(page))
 }

@@ -2,7 +2,7 @@
 use Prim.Native.Nat.{ℕ}
 use mathlib.Core.Path.{◌≡◌, refl, ap, sym, ◌∙◌}
 use mathlib.Core.List.{List, [], ◌∷◌, ◌++◌, append-nil}
-use mathlib.Core.Option.{none}
+use Rattle.std.specs.Prelude.{None}
 use mathlib.Core.Bool.{true, false, cond, not}
 use Rattle.lists.specs.Lists.{find, keep}
 use Rattle.lists.proofs.Tests.{split, clashes}
@@ -29,7 +29,7 @@ for_put k id everything l x = refl
 
 module _ (k : IdType) (id : List ℕ) (aces : List Ace) (l : IdType) (x : List ℕ) where
   -- the identifier's own ACE is dropped
-  gone : same_id k id l x ≡ true → find (is_for l x) (keep (other_ace k id) aces) ≡ none
+  gone : same_id k id l x ≡ true → find (is_for l x) (keep (other_ace k id) aces) ≡ None
   gone e =
       find_gone (is_for l x) (other_ace k id) aces
       (λ a m h. ap not (same_right k id l x e a.kind a.id ∙ h))

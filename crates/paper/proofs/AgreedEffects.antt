@@ -2,7 +2,7 @@
 use Prim.Native.Nat.{ℕ}
 use mathlib.Core.Path.{◌≡◌, refl, ap, ap₂, sym, ◌∙◌}
 use mathlib.Core.List.{List, [], ◌∷◌, ◌++◌, map}
-use mathlib.Core.Option.{none}
+use Rattle.std.specs.Prelude.{None}
 use mathlib.Core.Bool.{Bool, true, false, cond}
 use lib.ListN.{set}
 use lib.Dec.{eqb}
@@ -36,7 +36,7 @@ use Rattle.paper.specs.declared.state.Coordinator.{Coordinator}
 module _ (w : Setup) (h : History) (c : Coordinator) (sound : Sound c) (a : Agrees w h c) where
   -- ---- the switch
   agrees_switched : (s : Switching) → Fit c (switched s) → Agrees w (switched s ∷ h) (after_switching c s)
-  unfolding is_on last_page enrolment live_tokens token proxy_token ace_for token_for find
+  unfolding is_on last_page enrolment live_tokens token proxy_token ace_for token_for
   agrees_switched turned_on fit =
       record {
         transports = a.transports;
@@ -194,7 +194,7 @@ module _ (w : Setup) (h : History) (c : Coordinator) (sound : Sound c) (a : Agre
   proxied_so (released i l) fit j m =
       ap (λ (ps : List ProxyLun). token_behind (tokens_of c) (find (is_proxy j m) ps)) (proxies_with c (keep (other_proxy i l) (proxies_of c)))
       ∙ (behind_released (tokens_of c) (proxies_of c) i l j m (sound.proxies j m)
-      ∙ ap (cond (same_proxy_lun i l j m) none) (a.proxies j m))
+      ∙ ap (cond (same_proxy_lun i l j m) None) (a.proxies j m))
 
   agrees_proxying : (ps : List ProxyLun) (x : Proxying) → ((j m : ℕ) → token_behind (tokens_of c) (find (is_proxy j m) (proxies_of (with_proxies c ps))) ≡ proxy_token w (proxying x ∷ h) j m) → Agrees w (proxying x ∷ h) (with_proxies c ps)
   unfolding is_on last_page enrolment live_tokens token

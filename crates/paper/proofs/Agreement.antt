@@ -4,7 +4,6 @@ use mathlib.Core.Path.{◌≡◌, refl, ap, sym, ◌∙◌}
 use mathlib.Core.List.{List, [], ◌∷◌}
 use mathlib.Core.Bool.{true}
 use lib.ListN.{length}
-use Rattle.lists.specs.Lists.{find}
 use Rattle.paper.specs.Setup.{Setup, ids_in, setup_in, accepted}
 use Rattle.paper.specs.Fresh.{fresh}
 use Rattle.paper.specs.Rows.{ace_for, token_for}
@@ -47,7 +46,7 @@ link_agrees {es} w h c o i e =
 
 -- ---- the start
 pub start_agrees : (ids luns : List ℕ) → accepted ids luns ≡ true → Agrees (setup_in ids luns) [] (fresh (setup_in ids luns))
-unfolding fresh is_on last_page enrolment live_tokens token proxy_token ace_for token_for find
+unfolding fresh is_on last_page enrolment live_tokens token proxy_token ace_for token_for
 start_agrees ids luns e =
     record {
       transports = fresh_transports (setup_in ids luns) ∙ ids_kept ids (accepted_so ids luns e).whole_ids;

@@ -84,7 +84,6 @@ module _ (c : Coordinator) (i n l : ℕ) (stands : standing c ≡ true) (inside 
       (simp append_assoc)
 
   clear : (j : ℕ) → clash_for c j ≡ false → clash_for after j ≡ false
-  unfolding keep gather
   clear j h =
       split
       (eqb i j)

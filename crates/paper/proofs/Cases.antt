@@ -5,7 +5,7 @@ use mathlib.Core.Path.{◌≡◌, refl}
 use mathlib.Core.Bool.{true}
 use mathlib.Core.List.{List, [], ◌∷◌, map}
 use lib.ListN.{replicate}
-use Rattle.lists.specs.Lists.{find, place_of, keep, any, all, pairs, gather, parts, count}
+use Rattle.lists.specs.Lists.{place_of, pairs, gather, parts, count}
 use Rattle.lists.specs.Order.{insert, sort}
 use Rattle.lists.specs.Bytes.{be, be_bytes, same_bytes, less_bytes}
 use Rattle.lists.specs.Pages.{page_size, pages_up_to, pages_of, whole_page}
@@ -103,7 +103,7 @@ abbrev pub Right : Coordinator → Coordinator → Type 0
 Right c d = map (λ x. x.got) (cases c d) ≡ map (λ x. x.paper) (cases c d)
 
 computed : Right (fresh (setup_in transport shelf)) (fresh (setup_in transport small))
-unfolding find place_of keep any all pairs gather parts count insert sort be be_bytes same_bytes less_bytes page_size pages_up_to pages_of whole_page same_id less_id valid_transport sense_bytes setup_rules ids_in luns_in numbered fresh ace_for transport_rows enrolment_rows token_for proxy_rows open_rows rows_of clashing some_clash row_with pending_has setup_kept within_sizes identifiers_once present_once luacds_once lists_filled well_formed tokens_nonzero references_there no_clash generation_right empty_while_off standing read_in exactly read_manage read_cancel read_out reading_of ace_pages descriptor_in descriptors_in not_overruled page_luacds bad_identifier bad_list_page bad_all_page bad_page same_grant bad_places tokens_in page_effects manage_effects in_force effects put_ace applied applied_all malformed too_many manage_tests key_tests enroll_tests request_tests assign_tests release_tests tests luacd_bytes identifier_bytes ace_bytes token_bytes proxy_page report_pages report_bytes row_before reach_rows row_bytes reach_bytes reply_to decide_order decide_reading decide_command decide_link run_from cases
+unfolding place_of pairs parts count insert sort be be_bytes same_bytes less_bytes page_size pages_up_to pages_of whole_page same_id less_id valid_transport sense_bytes setup_rules ids_in luns_in numbered fresh ace_for transport_rows enrolment_rows token_for proxy_rows open_rows rows_of clashing some_clash row_with pending_has setup_kept within_sizes identifiers_once present_once luacds_once lists_filled well_formed tokens_nonzero references_there no_clash generation_right empty_while_off standing read_in exactly read_manage read_cancel read_out reading_of ace_pages descriptor_in descriptors_in not_overruled page_luacds bad_identifier bad_list_page bad_all_page bad_page same_grant bad_places tokens_in page_effects manage_effects in_force effects put_ace applied applied_all malformed too_many manage_tests key_tests enroll_tests request_tests assign_tests release_tests tests luacd_bytes identifier_bytes ace_bytes token_bytes proxy_page report_pages report_bytes row_before reach_rows row_bytes reach_bytes reply_to decide_order decide_reading decide_command decide_link run_from cases
 computed = refl
 
 begun : (luns : List ℕ) → accepted transport luns ≡ true → (started transport luns).state ≡ fresh (setup_in transport luns)
@@ -112,7 +112,7 @@ begun luns h = rw h
 
 -- both setups' bytes keep the rules
 kept : (accepted transport shelf ≡ true) × (accepted transport small ≡ true)
-unfolding accepted setup_rules ids_in luns_in all pairs any parts gather be be_bytes same_bytes valid_transport
+unfolding accepted setup_rules ids_in luns_in pairs parts be be_bytes same_bytes valid_transport
 kept = (refl, refl)
 
 pub starred : Right (started transport shelf).state (started transport small).state

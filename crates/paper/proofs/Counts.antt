@@ -7,7 +7,7 @@ use native.Mathlib.Omega.{arith}
 use lib.ListN.{length, take, length-take}
 use lib.Dec.{eqb}
 use borrow.Author.Tests.{eqb-true, eq-eqb, le-leb}
-use Rattle.lists.specs.Lists.{find, is_some}
+use Rattle.lists.specs.Lists.{is_some}
 use Rattle.lists.proofs.Tests.{split, clashes, and_true}
 use Rattle.paper.specs.Tables.{aces_of, tokens_of, proxies_of, with_tokens, with_proxies}
 use Rattle.paper.specs.Rows.{token_for}
@@ -79,7 +79,7 @@ module _ (c : Coordinator) (empty : empty_while_off c ≡ true) where
 
   -- so where a token is live, access controls are on
   pub live_on : (n : ℕ) → is_some (token_for (tokens_of c) n) ≡ true → c.enabled ≡ true
-  unfolding token_for find
+  unfolding token_for
   live_on n live =
       split c.enabled (λ e. e) (λ e. clashes live (ap (λ l. is_some (token_for l n)) (off_tokens e)))
 

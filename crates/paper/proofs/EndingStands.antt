@@ -2,7 +2,7 @@
 use Prim.Native.Nat.{ℕ, ◌≤◌}
 use mathlib.Core.Path.{◌≡◌, refl, sym, ◌∙◌, subst}
 use mathlib.Core.List.{List, []}
-use mathlib.Core.Option.{Option, some, none}
+use Rattle.std.specs.Prelude.{Option, Some, None}
 use mathlib.Core.Bool.{Bool, true, false}
 use native.Mathlib.Omega.{arith}
 use lib.ListN.{length}
@@ -19,7 +19,7 @@ use Rattle.paper.proofs.TokensAfter.{still_live}
 use Rattle.paper.proofs.Getters.{tokens_with, proxies_with}
 use Rattle.paper.proofs.Ruled.{Ruled, ruled, stands_by, TokensRuled, ProxiesRuled}
 use Rattle.paper.proofs.Stood.{stood, counted}
-use Rattle.paper.proofs.FewerRows.{Some, some_all, some_none, some_gather, fewer_rows, some_rows, same_enrolment}
+use Rattle.paper.proofs.FewerRows.{Fewer, some_all, some_none, some_gather, fewer_rows, some_rows, same_enrolment}
 use Rattle.paper.proofs.Counts.{within, tokens_counted, proxies_counted, tokens_within, proxies_within, tokens_off}
 use Rattle.paper.specs.declared.state.Token.{Token}
 use Rattle.paper.specs.declared.state.ProxyLun.{ProxyLun}
@@ -62,17 +62,17 @@ ended_ruled c e r =
     }
 
 -- ---- after some tokens' end a proxy LUN has the row that it had, or none
-fewer_row : (ts : List Token) (q : Token → Bool) (p : ProxyLun) → Once (has_number p.token) ts → Some clashing (row_of_proxy (keep q ts) p) (row_of_proxy ts p)
+fewer_row : (ts : List Token) (q : Token → Bool) (p : ProxyLun) → Once (has_number p.token) ts → Fewer clashing (row_of_proxy (keep q ts) p) (row_of_proxy ts p)
 unfolding token_for
 fewer_row ts q p o = rw (find_keep (has_number p.token) q ts o) (go (token_for ts p.token))
   where
-    go : (t : Option Token) → Some clashing (proxy_row p (only q t)) (proxy_row p t)
-    go none = some_all clashing []
-    go (some t) = split (q t) (λ e. rw e (some_all clashing _)) (λ e. rw e (some_none clashing _))
+    go : (t : Option Token) → Fewer clashing (proxy_row p (only q t)) (proxy_row p t)
+    go None = some_all clashing []
+    go (Some t) = split (q t) (λ e. rw e (some_all clashing _)) (λ e. rw e (some_none clashing _))
 
 -- ---- the kept lists are no longer, and the rows are some of those before
 module _ (c : Coordinator) (e : Ending) where
-  ended_x : pairs same_token (tokens_of c) ≡ false → (i : ℕ) → Some clashing (proxy_rows (applied c (tokening (ended e))) i) (proxy_rows c i)
+  ended_x : pairs same_token (tokens_of c) ≡ false → (i : ℕ) → Fewer clashing (proxy_rows (applied c (tokening (ended e))) i) (proxy_rows c i)
   unfolding proxy_rows applied
   ended_x h i =
       let ts = tokens_of c in

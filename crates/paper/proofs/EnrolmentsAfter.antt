@@ -7,7 +7,7 @@ use native.Mathlib.Omega.{arith}
 use lib.ListN.{length, get_or, drop, set, length-set, length-map, get_or-map}
 use lib.Seq.{get_or-take, get_or-drop}
 use lib.Dec.{eqb}
-use Rattle.lists.specs.Lists.{gather, parts}
+use Rattle.lists.specs.Lists.{parts}
 use Rattle.lists.proofs.Tests.{split}
 use Rattle.lists.proofs.Tables.{get_or_everywhere}
 use Rattle.paper.specs.Sizes.{enrolment_size, enrolments_size}
@@ -62,5 +62,4 @@ blank (suc n) l z zero = rw (get_or-take enrolment_size l 0 0 (omega arith) ∙ 
 blank (suc n) l z (suc i) = blank n (drop enrolment_size l) (λ j. get_or-drop enrolment_size l j 0 ∙ z (enrolment_size + j)) i
 
 pub nobody : (n i : ℕ) → get_or (map enrolment_in (parts enrolment_size n (enrolment_table []))) i not_enrolled ≡ not_enrolled
-unfolding gather
 nobody n i = blank n (enrolment_table []) (λ j. get_or_everywhere 0 enrolments_size [] j) i

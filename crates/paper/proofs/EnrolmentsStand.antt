@@ -22,7 +22,7 @@ use Rattle.paper.specs.Commands.{passes, enroll_tests}
 use Rattle.paper.proofs.Getters.{settled, length_enrolments}
 use Rattle.paper.proofs.Stood.{stood}
 use Rattle.paper.proofs.Ruled.{Ruled, ruled, stands_by, refers_to}
-use Rattle.paper.proofs.FewerRows.{Some, none, more, some_all, some_none, pairs_some, clash_none, none_clash, some_rows, same_enrolment}
+use Rattle.paper.proofs.FewerRows.{Fewer, fewest, more, some_all, some_none, pairs_some, clash_none, none_clash, some_rows, same_enrolment}
 use Rattle.paper.proofs.ListLaws.{from_set}
 use Rattle.paper.proofs.EnrolmentsAfter.{enrolment_with}
 use Rattle.paper.proofs.TablesStand.{settled_refers, enrolments_by, put_enrolments}
@@ -60,13 +60,13 @@ module _ (c : Coordinator) (i : ℕ) (e : Enrolment) where
       same_enrolment c after refl refl j (enrolment_of after j)
       ∙ (ap (enrolment_rows c j) (enrolment_with c es as_many j) ∙ settled_rows c j (get_or es j not_enrolled))
 
-  some_after : (j : ℕ) → Some clashing (enrolment_rows after j (enrolment_of after j)) (enrolment_rows c j (enrolment_of c j)) → Some clashing (rows_of after j) (rows_of c j)
+  some_after : (j : ℕ) → Fewer clashing (enrolment_rows after j (enrolment_of after j)) (enrolment_rows c j (enrolment_of c j)) → Fewer clashing (rows_of after j) (rows_of c j)
   unfolding transport_rows open_rows proxy_rows
   some_after j s =
       some_rows c after j refl refl (some_all clashing (transport_rows c j)) s (some_all clashing (proxy_rows c j))
 
   -- the others keep their rows
-  others : (j : ℕ) → eqb j i ≡ false → Some clashing (rows_of after j) (rows_of c j)
+  others : (j : ℕ) → eqb j i ≡ false → Fewer clashing (rows_of after j) (rows_of c j)
   others j f =
       let same = enrolment_rows_lem j ∙ ap (enrolment_rows c j) (get_or-set_other (enrolments_of c) i j e not_enrolled (eqb-false _ _ f)) in
       some_after j (rw same (some_all clashing _))
@@ -86,7 +86,7 @@ module _ (c : Coordinator) (i : ℕ) (e : Enrolment) where
       s.off
 
   -- or some of those that it had
-  fewer_stands : standing c ≡ true → i < c.initiators.count → refers_to (aces_of c) e ≡ true → Some clashing (enrolment_rows c i e) (enrolment_rows c i (enrolment_of c i)) → standing after ≡ true
+  fewer_stands : standing c ≡ true → i < c.initiators.count → refers_to (aces_of c) e ≡ true → Fewer clashing (enrolment_rows c i e) (enrolment_rows c i (enrolment_of c i)) → standing after ≡ true
   fewer_stands h k r some =
       clear_stands h r (pairs_some clashing (some_after i (rw (own k) some)) (clash_none c (stood c h).clashes i k))
 
@@ -110,14 +110,14 @@ suspended_refers aces not_enrolled = refl
 suspended_refers aces (enrolled id) = refl
 suspended_refers aces (pending id) = refl
 
-turned : (i : ℕ) (ps : List Luacd) → Some clashing (rows_at i GroundW ps) (rows_at i GroundA ps)
+turned : (i : ℕ) (ps : List Luacd) → Fewer clashing (rows_at i GroundW ps) (rows_at i GroundA ps)
 unfolding clashing
-turned i [] = none
+turned i [] = fewest
 turned i (p ∷ ps) = more (λ s. (refl, refl)) (turned i ps)
 
-suspended_rows : (c : Coordinator) (i : ℕ) (e : Enrolment) → Some clashing (enrolment_rows c i (suspended e)) (enrolment_rows c i e)
+suspended_rows : (c : Coordinator) (i : ℕ) (e : Enrolment) → Fewer clashing (enrolment_rows c i (suspended e)) (enrolment_rows c i e)
 unfolding enrolment_rows
-suspended_rows c i not_enrolled = none
+suspended_rows c i not_enrolled = fewest
 suspended_rows c i (enrolled id) = turned i (held (units_of c) (content_in (ace_for (aces_of c) AccessId id)))
 suspended_rows c i (pending id) = some_all clashing _
 

@@ -7,7 +7,7 @@ use native.Mathlib.Omega.{arith}
 use native.Mathlib.Decide.{dec_lt}
 use lib.ListN.{length, get_or-eq_default}
 use lib.Dec.{eqb}
-use Rattle.lists.specs.Lists.{find, gather, is_some}
+use Rattle.lists.specs.Lists.{gather, is_some}
 use Rattle.lists.proofs.Tests.{both, clashes}
 use Rattle.lists.proofs.Members.{in_get_or}
 use Rattle.paper.specs.Contents.{Enrolment, not_enrolled, enrolled, pending}
@@ -37,7 +37,7 @@ use Rattle.paper.specs.declared.state.Coordinator.{Coordinator}
 -- ---- what stands while access controls are off: nothing
 module _ (c : Coordinator) (sound : Sound c) (stands : standing c ≡ true) (off : c.enabled ≡ false) where
   no_ace_lem : (id : List ℕ) → is_some (ace_for (aces_of c) AccessId id) ≡ false
-  unfolding ace_for find
+  unfolding ace_for
   no_ace_lem id = ap (λ (l : List Ace). is_some (ace_for l AccessId id)) (off_aces c (stood c stands).off off)
 
   -- an enrolment refers to an ACE, and there is none
@@ -75,7 +75,6 @@ page_fits luns page rest f =
     f)))
 
 pages_fit : (luns : List ℕ) (pages : List (List ℕ)) (c : Coordinator) → FitAll c (gather (page_effects luns) pages)
-unfolding gather
 pages_fit luns [] c = tt
 pages_fit luns (page ∷ pages) c = page_fits luns page (gather (page_effects luns) pages) (pages_fit luns pages) c
 

@@ -2,7 +2,7 @@
 use Prim.Native.Nat.{ℕ, ◌<◌}
 use mathlib.Core.Path.{◌≡◌}
 use mathlib.Core.List.{List, [], ◌∷◌}
-use mathlib.Core.Option.{none}
+use Rattle.std.specs.Prelude.{None}
 use mathlib.Core.Bool.{true}
 use Rattle.lists.specs.Lists.{find}
 use Rattle.lists.proofs.Members.{none_find}
@@ -41,7 +41,7 @@ pub record Assigning (c : Coordinator) (i l n : ℕ) : Type 0 where
   pub passed : Assigns c i n l
 
 -- the initiator has no such proxy LUN yet: it would be a row with that LUN
-pub assigned_free : {c : Coordinator} {i l n : ℕ} → Sound c → Assigning c i l n → find (is_proxy i l) (proxies_of c) ≡ none
+pub assigned_free : {c : Coordinator} {i l n : ℕ} → Sound c → Assigning c i l n → find (is_proxy i l) (proxies_of c) ≡ None
 assigned_free {c} {i} {l} sound fit =
     none_find (is_proxy i l) (proxies_of c) (λ p m. no_proxy_lem c i l fit.on (sound.live p m) fit.passed.free m)
 

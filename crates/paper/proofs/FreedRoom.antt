@@ -4,7 +4,7 @@ use mathlib.Core.Path.{◌≡◌, refl, ap, sym, ◌∙◌}
 use mathlib.Core.Bool.{Bool, true, false, cond, not, ◌&&◌, ◌||◌}
 use mathlib.Core.Bool as Bool
 use mathlib.Core.List.{List, [], ◌∷◌, ◌++◌}
-use mathlib.Core.Option.{Option, some, none}
+use Rattle.std.specs.Prelude.{Option, Some, None}
 use mathlib.Core.Logic.{◌↔◌, ⊎_elim}
 use native.Mathlib.Omega.{arith}
 use lib.ListN.{length}
@@ -113,7 +113,7 @@ module _ (w : Setup) (h : History) (c : Coordinator) (holds : Holds w h c) (i l 
       ∙ ap (any (at_lun l)) (transport_given w h c holds.agrees i (omega (arith, n, initiators w h c holds)))
 
   any_a : (e : Enrolment) → any (by_ta l) (enrolment_rows c i e) ≡ any (at_lun l) (given_to w h AccessId (enrolled_under e))
-  unfolding enrolment_rows any
+  unfolding enrolment_rows
   any_a not_enrolled = refl
   any_a (enrolled id) =
       any_map (row_at i GroundA) (by_ta l) (held (units_of c) (content_for (aces_of c) AccessId id))
@@ -131,8 +131,8 @@ module _ (w : Setup) (h : History) (c : Coordinator) (holds : Holds w h c) (i l 
       by r p (token_for (tokens_of c) p.token) g)
     where
       by : (r : Row) (p : ProxyLun) (o : Option Token) → r ∈ proxy_row p o → by_ta l r ≡ false
-      by r p none m = elim m [ ]
-      by r p (some t) m = ⊎_elim (λ e. ap (by_ta l) e) (λ j. elim j [ ]) (in_cons m)
+      by r p None m = elim m [ ]
+      by r p (Some t) m = ⊎_elim (λ e. ap (by_ta l) e) (λ j. elim j [ ]) (in_cons m)
 
   any_awx : any (by_ta l) (enrolment_rows c i (enrolment_of c i) ++ proxy_rows c i) ≡ any (at_lun l) (given_by_a w h i)
   any_awx =

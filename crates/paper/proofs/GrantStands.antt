@@ -83,7 +83,7 @@ module _ (units : ℕ) (k : IdType) (id : List ℕ) (content : Content) (aces : 
 
 -- ---- an AccessID that had an ACE has one, unless the page removes it
 still_has : (k : IdType) (id : List ℕ) (content : Content) (aces : List Ace) (b : List ℕ) → is_some (ace_for aces AccessId b) ≡ true → (same_id AccessId b k id ≡ true → holds_nothing content ≡ false) → is_some (ace_for (put_ace k id content aces) AccessId b) ≡ true
-unfolding ace_for put_ace any
+unfolding ace_for put_ace
 still_has k id content aces b s f =
     let others = keep (other_ace k id) aces in
     let new : List Ace = cond (holds_nothing content) [] (ace_of k id content ∷ []) in

@@ -3,7 +3,7 @@ use Prim.Native.Nat.{ℕ}
 use mathlib.Core.Path.{◌≡◌, refl, ap, subst}
 use mathlib.Core.Bool.{true, false, cond}
 use mathlib.Core.List.{List, [], ◌++◌}
-use mathlib.Core.Option.{Option, some, none}
+use Rattle.std.specs.Prelude.{Option, Some, None}
 use mathlib.Core.Logic.{⊎_elim}
 use lib.Dec.{eqb}
 use borrow.Author.Tests.{eqb-true, eq-eqb}
@@ -32,8 +32,8 @@ unfolding ace_for
 content_by_lem P aces k id nothing each = go (ace_for aces k id) refl
   where
     go : (o : Option Ace) → ace_for aces k id ≡ o → P (content_in o)
-    go none e = nothing
-    go (some a) e = each a (find_in (is_for k id) aces e).0
+    go None e = nothing
+    go (Some a) e = each a (find_in (is_for k id) aces e).0
 
 -- ---- on and off
 module _ (c : Coordinator) (i : ℕ) where
@@ -72,7 +72,7 @@ pub record ByProxy (c : Coordinator) (i : ℕ) (r : Row) : Type 0 where
   pub listed : proxy ∈ proxies_of c
   pub owner : proxy.initiator ≡ i
   pub token : Token
-  pub live : token_for (tokens_of c) proxy.token ≡ some token
+  pub live : token_for (tokens_of c) proxy.token ≡ Some token
   pub row : r ≡ proxy_to proxy token
 
 module _ (c : Coordinator) where
@@ -84,11 +84,11 @@ module _ (c : Coordinator) where
       by p kept.0 (eqb-true p.initiator i kept.1) (token_for (tokens_of c) p.token) refl g
     where
       by : (p : ProxyLun) → p ∈ proxies_of c → p.initiator ≡ i → (t : Option Token) → token_for (tokens_of c) p.token ≡ t → r ∈ proxy_row p t → ByProxy c i r
-      by p k own none e g = elim g [ ]
-      by p k own (some t) e g =
+      by p k own None e g = elim g [ ]
+      by p k own (Some t) e g =
           ⊎_elim (λ q. record { proxy = p; listed = k; owner = own; token = t; live = e; row = q }) (λ j. elim j [ ]) (in_cons g)
 
-  pub in_proxies : {p : ProxyLun} {t : Token} → p ∈ proxies_of c → token_for (tokens_of c) p.token ≡ some t → proxy_to p t ∈ proxy_rows c p.initiator
+  pub in_proxies : {p : ProxyLun} {t : Token} → p ∈ proxies_of c → token_for (tokens_of c) p.token ≡ Some t → proxy_to p t ∈ proxy_rows c p.initiator
   unfolding proxy_rows
   in_proxies {p} {t} m e =
       let row : proxy_to p t ∈ row_of_proxy (tokens_of c) p = rw e (here refl) in

@@ -2,7 +2,7 @@
 use Prim.Native.Nat.{ℕ}
 use mathlib.Core.Path.{◌≡◌}
 use mathlib.Core.List.{List, []}
-use mathlib.Core.Option.{Option, some, none}
+use Rattle.std.specs.Prelude.{Option, Some, None}
 use mathlib.Core.Bool.{true}
 use Rattle.lists.specs.Lists.{◌∈◌, find, is_some}
 use Rattle.lists.proofs.Members.{Once}
@@ -21,13 +21,13 @@ use Rattle.paper.specs.declared.state.Coordinator.{Coordinator}
 
 -- what an identifier holds by its last page: nothing where there was none
 abbrev pub content_left : Option Content → Content
-content_left none = these []
-content_left (some content) = content
+content_left None = these []
+content_left (Some content) = content
 
 -- the token behind an initiator's proxy LUN, by the tables
 abbrev pub token_behind : List Token → Option ProxyLun → Option Token
-token_behind ts none = none
-token_behind ts (some p) = token_for ts p.token
+token_behind ts None = None
+token_behind ts (Some p) = token_for ts p.token
 
 abbrev pub behind : Coordinator → ℕ → ℕ → Option Token
 behind c i l = token_behind (tokens_of c) (find (is_proxy i l) (proxies_of c))

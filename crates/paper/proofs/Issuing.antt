@@ -4,7 +4,7 @@ use mathlib.Core.Path.{◌≡◌, refl, ap, sym, ◌∙◌, subst}
 use mathlib.Core.Bool.{Bool, true, false, not}
 use mathlib.Core.Bool as Bool
 use mathlib.Core.List.{List, [], ◌∷◌}
-use mathlib.Core.Option.{some}
+use Rattle.std.specs.Prelude.{Some}
 use lib.Dec.{eqb}
 use borrow.Author.Tests.{not-true, eqb-true}
 use Rattle.lists.specs.Lists.{any, is_some}
@@ -29,7 +29,7 @@ use Rattle.paper.specs.declared.answers.Answer.TheVariants.{Good, Check, Refused
 
 -- ---- REQUEST PROXY TOKEN alone issues a number, the random number given with it
 issues_only : (luns : List ℕ) (on : Bool) (i random n : ℕ) (o : Order) → any (issues n) (effects luns on i random o) ≡ true → (l : ℕ) × (o ≡ request_token l) × (random ≡ n)
-unfolding effects any
+unfolding effects
 issues_only luns on i random n (report_acl key room) p = clashes p refl
 issues_only luns on i random n (request_token l) p =
     (l, refl, eqb-true random n (sym (Bool.or-false (eqb random n)) ∙ p))
@@ -45,7 +45,7 @@ issues_only luns on i random n no_action p = clashes p refl
 
 -- while access controls are off no order issues one
 off_issues_none : (luns : List ℕ) (i random n : ℕ) (o : Order) → any (issues n) (effects luns false i random (in_force false o)) ≡ false
-unfolding in_force effects any
+unfolding in_force effects
 off_issues_none luns i random n (report_acl key room) = refl
 off_issues_none luns i random n (request_token l) = refl
 off_issues_none luns i random n (manage_acl list) = manage_no_issue luns false list n
@@ -60,7 +60,7 @@ off_issues_none luns i random n no_action = refl
 
 -- ---- a token is live while access controls are on, and no longer
 abbrev LiveOn : Setup → History → ℕ → Type 0
-LiveOn w h n = (t : Token) → token w h n ≡ some t → is_on h ≡ true
+LiveOn w h n = (t : Token) → token w h n ≡ Some t → is_on h ≡ true
 
 -- an effect that does not issue the number keeps that
 effect_on : (w : Setup) (h : History) (x : Effect) (n : ℕ) → issues n x ≡ false → LiveOn w h n → LiveOn w (x ∷ h) n
@@ -73,7 +73,7 @@ effect_on w h (tokening x) n a live t q = live t (live_before w h (tokening x) n
 effect_on w h (proxying x) n a live t q = live t q
 
 effects_on : (w : Setup) (h : History) (es : List Effect) (n : ℕ) → any (issues n) es ≡ false → LiveOn w h n → LiveOn w (onto es h) n
-unfolding any onto
+unfolding onto
 effects_on w h [] n a live = live
 effects_on w h (x ∷ es) n a live =
     let (b, rest) = or_false (issues n x) (any (issues n) es) a in
@@ -110,19 +110,19 @@ module _ (w : Setup) (h : History) (luns : List ℕ) (n : ℕ) (live : LiveOn w 
   answered_on (Refused k) s = live
 
 -- so of every transcript, whatever its answers
-pub live_on : (w : Setup) (xs : List Entry) (n : ℕ) (t : Token) → token w (took w xs) n ≡ some t → is_on (took w xs) ≡ true
+pub live_on : (w : Setup) (xs : List Entry) (n : ℕ) (t : Token) → token w (took w xs) n ≡ Some t → is_on (took w xs) ≡ true
 unfolding took token
 live_on w [] n t q = absurd (none_not_some q)
 live_on w (x ∷ xs) n t q = answered_on w (took w xs) w.luns n (live_on w xs n) x.answer x.statement t q
 
 -- ---- "a usable number" is no live token's
-usable_other : (w : Setup) (h : History) (m n : ℕ) (t : Token) → usable w h m ≡ true → token w h n ≡ some t → m ≡ n → ⊥
+usable_other : (w : Setup) (h : History) (m n : ℕ) (t : Token) → usable w h m ≡ true → token w h n ≡ Some t → m ≡ n → ⊥
 usable_other w h m n t u q e =
     let (z, d) = and_true (not (eqb m 0)) (not (is_some (token w h m))) u in
     clashes (ap is_some (ap (token w h) e ∙ q)) (not-true (is_some (token w h m)) d)
 
 -- ---- what a statement is decided to be issues no live token's number
-module _ (w : Setup) (h : History) (c : Coordinator) (holds : Holds w h c) (n : ℕ) (t : Token) (live : token w h n ≡ some t) where
+module _ (w : Setup) (h : History) (c : Coordinator) (holds : Holds w h c) (n : ℕ) (t : Token) (live : token w h n ≡ Some t) where
   -- REQUEST PROXY TOKEN passes its tests with a usable number alone
   passed_usable : (i l random : ℕ) → request_tests c i l random ≡ passes → usable w h random ≡ true
   passed_usable i l random e =
@@ -141,7 +141,6 @@ module _ (w : Setup) (h : History) (c : Coordinator) (holds : Holds w h c) (n : 
       (λ p. p)
 
   pub command_new : (i : ℕ) (cdb list : List ℕ) (random room : ℕ) (d : Decision) → decide_command c i cdb list random room ≡ d → any (issues n) (answered_effects (outcome_of c d).answer (statement_effects w.luns (is_on h) (command i cdb list random))) ≡ false
-  unfolding any
   command_new i cdb list random room (refuse k) e = refl
   command_new i cdb list random room (check k) e = refl
   command_new i cdb list random room (good es bytes) e =
@@ -151,7 +150,7 @@ module _ (w : Setup) (h : History) (c : Coordinator) (holds : Holds w h c) (n : 
 
 -- a link event issues none, whatever its answer
 pub link_new : (luns : List ℕ) (on : Bool) (n i : ℕ) (a : Answer) → any (issues n) (answered_effects a (statement_effects luns on (link i))) ≡ false
-unfolding statement_effects any
+unfolding statement_effects
 link_new luns true n i Good = refl
 link_new luns false n i Good = refl
 link_new luns on n i (Check k) = refl

@@ -2,7 +2,7 @@
 use Prim.Native.Nat.{ℕ, zero, suc, ◌+◌, ◌*◌, ◌≤◌}
 use mathlib.Core.Path.{◌≡◌, refl, ap}
 use mathlib.Core.List.{List, [], ◌∷◌, ◌++◌}
-use mathlib.Core.Option.{Option, some, none}
+use Rattle.std.specs.Prelude.{Option, Some, None}
 use mathlib.Core.Bool.{Bool, true, false, cond}
 use native.Mathlib.Omega.{arith}
 use lib.ListN.{length, take, length-append, length-take, length-map}
@@ -136,8 +136,8 @@ one_row : (ts : List Token) (p : ProxyLun) → length (row_of_proxy ts p) ≤ 1
 one_row ts p = go (token_for ts p.token)
   where
     go : (o : Option Token) → length (proxy_row p o) ≤ 1
-    go none = omega arith
-    go (some t) = omega arith
+    go None = omega arith
+    go (Some t) = omega arith
 
 -- an initiator has no more X rows than proxy LUNs
 proxy_rows_lem : (c : Coordinator) (i : ℕ) → length (proxy_rows c i) ≤ length (keep (owned_by i) (proxies_of c))

@@ -2,7 +2,7 @@
 use Prim.Native.Nat.{ℕ, zero, suc, ◌<◌}
 use mathlib.Core.Path.{◌≡◌, refl, ap, ap₂, sym, ◌∙◌, subst}
 use mathlib.Core.List.{List, [], ◌∷◌, ◌++◌}
-use mathlib.Core.Option.{Option, some, none, map}
+use Rattle.std.specs.Prelude.{Option, Some, None, option_map}
 use mathlib.Core.Bool.{Bool, true, false, cond, ◌&&◌}
 use mathlib.Core.Logic.{◌⊎◌, inl, inr, ⊎_elim}
 use native.Mathlib.Omega.{arith}
@@ -36,7 +36,7 @@ each_last P l y f p x h =
     ⊎_elim (λ m. f x m) (λ m. ⊎_elim (λ e. subst P (sym e) p) (λ z. elim z [ ]) (in_cons m)) (in_append l h)
 
 -- the element at a place within the list
-pub nth_at : {A : Type 0} (d : A) (l : List A) (i : ℕ) → i < length l → nth l i ≡ some (get_or l i d)
+pub nth_at : {A : Type 0} (d : A) (l : List A) (i : ℕ) → i < length l → nth l i ≡ Some (get_or l i d)
 unfolding nth
 nth_at d [] i h = absurd (omega arith)
 nth_at d (x ∷ l) zero h = refl
@@ -44,17 +44,16 @@ nth_at d (x ∷ l) (suc i) h = nth_at d l i (omega arith)
 
 -- what one search finds, or else another
 abbrev pub first_of : {A : Type 0} → Option A → Option A → Option A
-first_of none o = o
-first_of (some x) o = some x
+first_of None o = o
+first_of (Some x) o = Some x
 
 pub find_first : {A : Type 0} (p : A → Bool) (l m : List A) → find p (l ++ m) ≡ first_of (find p l) (find p m)
-unfolding find
 find_first p [] m = refl
 find_first p (x ∷ l) m = split (p x) (λ e. rw e) (λ e. rw e (find_first p l m))
 
-pub map_first : {A B : Type 0} (f : A → B) (a b : Option A) → map f (first_of a b) ≡ first_of (map f a) (map f b)
-map_first f none b = refl
-map_first f (some x) b = refl
+pub map_first : {A B : Type 0} (f : A → B) (a b : Option A) → option_map f (first_of a b) ≡ first_of (option_map f a) (option_map f b)
+map_first f None b = refl
+map_first f (Some x) b = refl
 
 -- a list that nothing is in
 pub no_member : {A : Type 0} (l : List A) → ((x : A) → x ∈ l → ⊥) → l ≡ []
@@ -62,28 +61,27 @@ no_member [] n = refl
 no_member (x ∷ l) n = absurd (n x (here refl))
 
 -- a search that finds nothing
-pub find_nothing : {A : Type 0} (p : A → Bool) (l : List A) → find p l ≡ none → any p l ≡ false
+pub find_nothing : {A : Type 0} (p : A → Bool) (l : List A) → find p l ≡ None → any p l ≡ false
 find_nothing p l e = sym (find_any p l) ∙ ap is_some e
 
 -- what is not there
-pub is_none : {A : Type 0} (o : Option A) → is_some o ≡ false → o ≡ none
-is_none none e = refl
-is_none (some x) e = clashes refl e
+pub is_none : {A : Type 0} (o : Option A) → is_some o ≡ false → o ≡ None
+is_none None e = refl
+is_none (Some x) e = clashes refl e
 
 -- what is there
-pub some_there : {A : Type 0} (o : Option A) → is_some o ≡ true → (x : A) × (o ≡ some x)
-some_there none e = clashes e refl
-some_there (some x) e = (x, refl)
+pub some_there : {A : Type 0} (o : Option A) → is_some o ≡ true → (x : A) × (o ≡ Some x)
+some_there None e = clashes e refl
+some_there (Some x) e = (x, refl)
 
 -- ---- lists of lists
 pub gather_same : {A B : Type 0} (f g : A → List B) (l : List A) → ((x : A) → x ∈ l → f x ≡ g x) → gather f l ≡ gather g l
-unfolding gather
 gather_same f g [] e = refl
 gather_same f g (x ∷ l) e = rw (e x (here refl), gather_same f g l (λ y k. e y (there k)))
 
 -- of which no two share an element
 pub different_gather : {A B : Type 0} (f : A → List B) (l : List A) → Different l → ((x : A) → x ∈ l → Different (f x)) → ((x y : A) (z : B) → z ∈ f x → z ∈ f y → x ≡ y) → Different (gather f l)
-unfolding gather Different
+unfolding Different
 different_gather f [] d e k = tt
 different_gather f (x ∷ l) d e k =
     different_append (f x) (gather f l) (e x (here refl)) (different_gather f l d.1 (λ y h. e y (there h)) k)

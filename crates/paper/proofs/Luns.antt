@@ -32,7 +32,6 @@ pub head_is : (l : ℕ) → lun_form l ≡ true → (x : ℕ) → eqb x (head_of
 head_is l h x = sym (same_lun x (head_of l)) ∙ ap (eqb (lun_of x)) (lun_whole l h)
 
 pub luns_whole : (l : List ℕ) → all lun_form l ≡ true → map lun_of (map head_of l) ≡ l
-unfolding all
 luns_whole [] h = refl
 luns_whole (x ∷ l) h = let p = and_true (lun_form x) _ h in rw (lun_whole x p.0, luns_whole l p.1)
 

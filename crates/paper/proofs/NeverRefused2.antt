@@ -3,7 +3,7 @@ use Prim.Native.Nat.{ℕ}
 use mathlib.Core.Path.{◌≡◌, refl, ap}
 use mathlib.Core.Bool.{Bool, true, false, cond, not}
 use mathlib.Core.List.{List, []}
-use mathlib.Core.Option.{Option, some, none}
+use Rattle.std.specs.Prelude.{Option, Some, None}
 use native.Mathlib.Omega.{arith}
 use lib.ListN.{length}
 use lib.Dec.{eqb, leb, ltb}
@@ -70,8 +70,8 @@ bars_two (Closed k) = false
 bars_two (Barred n) = is_two n
 
 rows_answer : (o : Option Row) (k : Condition) → bars_two (opens_or o k) ≡ false
-rows_answer none k = refl
-rows_answer (some r) k = refl
+rows_answer None k = refl
+rows_answer (Some r) k = refl
 
 module _ (c : Coordinator) (stands : standing c ≡ true) where
   command_other : (i : ℕ) (cdb list : List ℕ) (random room : ℕ) → Other (decide_command c i cdb list random room)

@@ -6,7 +6,7 @@ use mathlib.Core.Bool.{true, false}
 use native.Mathlib.Omega.{arith}
 use lib.ListN.{length-map}
 use lib.Dec.{eqb}
-use Rattle.lists.specs.Lists.{any, all, pairs}
+use Rattle.lists.specs.Lists.{any, pairs}
 use Rattle.lists.proofs.Tests.{or_false}
 use Rattle.lists.proofs.Members.{place_in}
 use Rattle.wire.specs.Lun.{lun_of}
@@ -33,7 +33,7 @@ use Rattle.paper.specs.declared.state.Coordinator.{Coordinator}
 
 -- ---- O rows do not clash: the default LUNs are all different
 clear_of_o : (i l u n : ℕ) (luns : List ℕ) → any (eqb (lun_of l)) (map lun_of luns) ≡ false → any (clashing (row_at i GroundO (record { lun = l; unit = u }))) (rows_at i GroundO (numbered n luns)) ≡ false
-unfolding any numbered clashing
+unfolding numbered clashing
 clear_of_o i l u n [] h = refl
 clear_of_o i l u n (x ∷ luns) h =
     let r = or_false (eqb (lun_of l) (lun_of x)) _ h in
@@ -72,7 +72,7 @@ module _ (n : ℕ) (ids : List ℕ) (units : Units) (kept-rules : setup_kept (em
   empty_clear i = clear_open i 0 (units_of off) (setup_apart (transports_of off) (map lun_of (units_of off)) kept-rules).different
 
   empty_stands : n ≤ 16 → units.count ≤ 32 → standing off ≡ true
-  unfolding empty_while_off all
+  unfolding empty_while_off
   empty_stands few many =
       stands_by off empty_ruled
       (within off (record { few_initiators = few; few_units = many; few_aces = omega arith; luacds_few = refl; few_tokens = omega arith; few_proxies = omega arith }))

@@ -3,12 +3,12 @@ use Prim.Native.Nat.{ℕ}
 use mathlib.Core.Path.{◌≡◌, refl, ap, sym, ◌∙◌}
 use mathlib.Core.Bool.{true, false, ◌&&◌}
 use mathlib.Core.List.{List, []}
-use mathlib.Core.Option.{Option, some, none}
+use Rattle.std.specs.Prelude.{Option, Some, None}
 use mathlib.Core.Logic.{⊎_elim}
 use lib.ListN.{take}
 use lib.Dec.{eqb}
 use borrow.Author.Tests.{eqb-true}
-use Rattle.lists.specs.Lists.{find, is_some}
+use Rattle.lists.specs.Lists.{is_some}
 use Rattle.lists.proofs.Tests.{split, clashes, and_true, or_true}
 use Rattle.paper.specs.Setup.{Setup}
 use Rattle.paper.specs.Contents.{held}
@@ -33,14 +33,14 @@ module _ (w : Setup) (h : History) (c : Coordinator) (holds : Holds w h c) where
 
   -- while off no identifier is given anything
   nothing_given : is_on h ≡ false → (k : IdType) (id : Option (List ℕ)) → given_to w h k id ≡ []
-  unfolding ace_for find
-  nothing_given off k none = refl
-  nothing_given off k (some id) =
+  unfolding ace_for
+  nothing_given off k None = refl
+  nothing_given off k (Some id) =
       sym (holds_given w h c holds.agrees k id)
       ∙ ap (λ aces. held (units_of c) (content_for aces k id)) (no_aces off)
 
   pub place_on : (i l : ℕ) → is_some (place_named w h i l) ≡ true → is_on h ≡ true
-  unfolding place_named find
+  unfolding place_named
   place_on i l there =
       split (is_on h)
       (λ on. on)

@@ -3,7 +3,7 @@ use Prim.Native.Nat.{ℕ}
 use mathlib.Core.Path.{◌≡◌, refl, ◌∙◌}
 use mathlib.Core.Bool.{Bool, true, false, cond, not, ◌&&◌, ◌||◌}
 use mathlib.Core.List.{List, [], ◌∷◌}
-use mathlib.Core.Option.{some}
+use Rattle.std.specs.Prelude.{Some}
 use mathlib.Core.Logic.{◌⊎◌, inl, inr}
 use lib.Dec.{eqb}
 use borrow.Author.Tests.{not-true}
@@ -35,7 +35,7 @@ spares t n (tokening (issued i l m)) = not (eqb m n)
 spares t n (tokening (ended e)) = outlives e t
 spares t n (proxying x) = true
 
-spared : (w : Setup) (h : History) (x : Effect) (n : ℕ) (t : Token) → spares t n x ≡ true → token w h n ≡ some t → token w (x ∷ h) n ≡ some t
+spared : (w : Setup) (h : History) (x : Effect) (n : ℕ) (t : Token) → spares t n x ≡ true → token w h n ≡ Some t → token w (x ∷ h) n ≡ Some t
 unfolding token
 spared w h (switched s) n t a q = clashes a refl
 spared w h (keyed k) n t a q = q
@@ -45,8 +45,8 @@ spared w h (tokening (issued i l m)) n t a q = rw (not-true (eqb m n) a) q
 spared w h (tokening (ended e)) n t a q = rw (q, not-true (ends e t) a)
 spared w h (proxying x) n t a q = q
 
-spared_all : (w : Setup) (h : History) (es : List Effect) (n : ℕ) (t : Token) → all (spares t n) es ≡ true → token w h n ≡ some t → token w (onto es h) n ≡ some t
-unfolding all onto
+spared_all : (w : Setup) (h : History) (es : List Effect) (n : ℕ) (t : Token) → all (spares t n) es ≡ true → token w h n ≡ Some t → token w (onto es h) n ≡ Some t
+unfolding onto
 spared_all w h [] n t a q = q
 spared_all w h (x ∷ es) n t a q =
     let (b, rest) = and_true (spares t n x) (all (spares t n) es) a in
@@ -58,7 +58,7 @@ abbrev pub page_ends : Token → List ℕ → Bool
 page_ends t page = (eqb (page_code page) 0x02 && ends (listed (tokens_in page)) t) || eqb (page_code page) 0x03
 
 page_spares : (luns page : List ℕ) (n : ℕ) (t : Token) → page_ends t page ≡ false → all (spares t n) (page_effects luns page) ≡ true
-unfolding page_effects all
+unfolding page_effects
 page_spares luns page n t a =
     let (b, d) = or_false (eqb (page_code page) 2 && ends (listed (tokens_in page)) t) (eqb (page_code page) 3) a in
     split (eqb (page_code page) 0)
@@ -69,7 +69,7 @@ page_spares luns page n t a =
     listing f = rw f
 
 manage_spares : (luns list : List ℕ) (n : ℕ) (t : Token) → any (page_ends t) (ace_pages list) ≡ false → all (spares t n) (manage_effects luns true list) ≡ true
-unfolding manage_effects all
+unfolding manage_effects
 manage_spares luns list n t a =
     all_append (spares t n) (cond (flush_in list) (enrolling flushed ∷ []) []) (gather (page_effects luns) (ace_pages list))
     ∙ rw pages (split (flush_in list) (λ p. rw p) (λ p. rw p))
@@ -118,7 +118,7 @@ entry_ends t (link i) = false
 -- what takes effect while access controls are on spares every token that the statement does not end, unless it issues that number anew
 module _ (luns : List ℕ) (n : ℕ) (t : Token) where
   order_spares : (i random : ℕ) (o : Order) → order_ends t i o ≡ false → any (issues n) (effects luns true i random o) ≡ false → all (spares t n) (effects luns true i random o) ≡ true
-  unfolding effects any all
+  unfolding effects
   order_spares i random (report_acl key room) m a = refl
   order_spares i random (request_token l) m a =
       let (b, rest) = or_false (eqb random n) false a in rw b
@@ -133,23 +133,22 @@ module _ (luns : List ℕ) (n : ℕ) (t : Token) where
   order_spares i random no_action m a = refl
 
   reading_spares : (i random : ℕ) (r : Reading) → reading_ends t i r ≡ false → any (issues n) (reading_effects luns true i random r) ≡ false → all (spares t n) (reading_effects luns true i random r) ≡ true
-  unfolding all in_force
+  unfolding in_force
   reading_spares i random (wrong k) m a = refl
   reading_spares i random (order o) m a = order_spares i random o m a
 
   statement_spares : (s : Statement) → entry_ends t s ≡ false → any (issues n) (statement_effects luns true s) ≡ false → all (spares t n) (statement_effects luns true s) ≡ true
-  unfolding statement_effects all
+  unfolding statement_effects
   statement_spares (command i cdb list random) m a = reading_spares i random (reading_of cdb list) m a
   statement_spares (link i) m a = refl
 
   answered_spares : (a : Answer) (s : Statement) → entry_ends t s ≡ false → any (issues n) (answered_effects a (statement_effects luns true s)) ≡ false → all (spares t n) (answered_effects a (statement_effects luns true s)) ≡ true
-  unfolding all
   answered_spares Good s m a = statement_spares s m a
   answered_spares (Check k) s m a = refl
   answered_spares (Refused k) s m a = refl
 
 -- after a statement that does not end it, whatever the answer, a live token is live as it was, unless the statement issues its number anew, which none does in a run (TokensInRuns)
-pub outlives_entry : (w : Setup) (x : Entry) (xs : List Entry) (n : ℕ) (t : Token) → entry_ends t x.statement ≡ false → any (issues n) (last_took w x xs) ≡ false → token w (took w xs) n ≡ some t → token w (took w (x ∷ xs)) n ≡ some t
+pub outlives_entry : (w : Setup) (x : Entry) (xs : List Entry) (n : ℕ) (t : Token) → entry_ends t x.statement ≡ false → any (issues n) (last_took w x xs) ≡ false → token w (took w xs) n ≡ Some t → token w (took w (x ∷ xs)) n ≡ Some t
 unfolding took
 outlives_entry w x xs n t m a q =
     let on : is_on (took w xs) ≡ true = live_on w xs n t q in

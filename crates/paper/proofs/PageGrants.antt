@@ -9,7 +9,7 @@ use native.Mathlib.Omega.{arith}
 use lib.ListN.{length, get_or}
 use lib.Dec.{eqb, ltb}
 use borrow.Author.Tests.{not-false, eqb-true, eq-eqb, eqb-false, ltb-true, lt-ltb}
-use Rattle.lists.specs.Lists.{◌∈◌, here, there, any, all, pairs, place_of}
+use Rattle.lists.specs.Lists.{◌∈◌, here, there, any, pairs, place_of}
 use Rattle.lists.proofs.Tests.{split, clashes, and_true, and_false, or_false, or_true}
 use Rattle.lists.proofs.Members.{in_cons, any_none, none_any, in_all, all_map, pairs_map, place_some, place_passes}
 use Rattle.wire.specs.Lun.{lun_of, head_of, lun_form}
@@ -97,7 +97,7 @@ overrules_by luns x y p q h =
 
 -- ---- what a page gives
 pub everything_ruled : (units : ℕ) → ContentRuled units everything
-unfolding pairs all
+unfolding pairs
 everything_ruled units = record { once = refl; formed = refl; placed = refl }
 
 -- the LUACDs of a page

@@ -3,13 +3,13 @@ use Prim.Native.Nat.{ℕ, ◌+◌, ◌≤◌, ◌<◌}
 use mathlib.Core.Path.{◌≡◌, refl, ap, sym, ◌∙◌}
 use mathlib.Core.Bool.{Bool, true, false, cond}
 use mathlib.Core.List.{List, [], ◌∷◌, ◌++◌}
-use mathlib.Core.Option.{Option, some, none}
+use Rattle.std.specs.Prelude.{Option, Some, None}
 use mathlib.Core.Logic.{⊎_elim}
 use native.Mathlib.Omega.{arith}
 use lib.ListN.{length, take, length-append}
 use lib.Dec.{eqb, ltb}
 use borrow.Author.Tests.{ltb-true, eqb-true, eq-eqb}
-use Rattle.lists.specs.Lists.{◌∈◌, here, there, find, keep, all, is_some, gather, count, below}
+use Rattle.lists.specs.Lists.{◌∈◌, here, there, keep, all, is_some, gather, count, below}
 use Rattle.lists.specs.Order.{sort}
 use Rattle.lists.proofs.Tests.{split, clashes, and_true, or_true}
 use Rattle.lists.proofs.Members.{in_cons, from_gather, in_gather, from_keep, all_in, in_all, none_any, keep_append, keep_all, keep_none}
@@ -37,7 +37,6 @@ abbrev alone : {A : Type 0} → (A → Bool) → A → List A
 alone p x = cond (p x) (x ∷ []) []
 
 keep_gathered : {A : Type 0} (p : A → Bool) (l : List A) → keep p l ≡ gather (alone p) l
-unfolding keep gather
 keep_gathered p [] = refl
 keep_gathered p (x ∷ l) = split (p x) (λ e. rw (e, keep_gathered p l)) (λ e. rw (e, keep_gathered p l))
 
@@ -46,20 +45,17 @@ length_keep_sort p before l =
     ap length (keep_gathered p (sort before l)) ∙ (gather_sort (alone p) before l ∙ ap length (sym (keep_gathered p l)))
 
 keep_gather : {A B : Type 0} (p : B → Bool) (f : A → List B) (l : List A) → keep p (gather f l) ≡ gather (λ x. keep p (f x)) l
-unfolding keep gather
 keep_gather p f [] = refl
 keep_gather p f (x ∷ l) = keep_append p (f x) (gather f l) ∙ ap (λ m. keep p (f x) ++ m) (keep_gather p f l)
 
 -- lists of the same lengths make lists of the same length
 gather_lengths : {A B C : Type 0} (f : A → List B) (g : A → List C) (l : List A) → ((x : A) → x ∈ l → length (f x) ≡ length (g x)) → length (gather f l) ≡ length (gather g l)
-unfolding gather
 gather_lengths f g [] h = refl
 gather_lengths f g (x ∷ l) h =
     simp length-append (omega (arith, h x (here refl), gather_lengths f g l (λ y m. h y (there m))))
 
 -- one for each
 gather_ones : {A B : Type 0} (f : A → List B) (l : List A) → ((x : A) → x ∈ l → length (f x) ≡ 1) → length (gather f l) ≡ length l
-unfolding gather
 gather_ones f [] h = refl
 gather_ones f (x ∷ l) h =
     simp length-append (omega (arith, h x (here refl), gather_ones f l (λ y m. h y (there m))))
@@ -71,7 +67,6 @@ some_there (there m) = omega arith
 
 module _ {B : Type 0} (share : B → ℕ) (k n : ℕ) where
   shared_least : (l : List B) → ((x : B) → x ∈ l → (k ≤ share x) × (share x < k + n)) → length l ≤ length (gather (λ i. keep (λ x. eqb (share x) i) l) (count k n))
-  unfolding keep
   shared_least [] h = omega arith
   shared_least (x ∷ l) h =
       let (low, high) = h x (here refl) in
@@ -124,8 +119,8 @@ module _ (c : Coordinator) (stands : standing c ≡ true) where
   one_row p m = go (token_for (tokens_of c) p.token) (refers p m).1
     where
       go : (o : Option Token) → is_some o ≡ true → length (proxy_row p o) ≡ 1
-      go none e = clashes e refl
-      go (some t) e = refl
+      go None e = clashes e refl
+      go (Some t) e = refl
 
   x_rows : (i : ℕ) → keep is_x (proxy_rows c i) ≡ proxy_rows c i
   unfolding proxy_rows
@@ -136,11 +131,11 @@ module _ (c : Coordinator) (stands : standing c ≡ true) where
       by r p (token_for (tokens_of c) p.token) g))
     where
       by : (r : Row) (p : ProxyLun) (o : Option Token) → r ∈ proxy_row p o → is_x r ≡ true
-      by r p none m = elim m [ ]
-      by r p (some t) m = ⊎_elim (λ e. ap is_x e) (λ j. elim j [ ]) (in_cons m)
+      by r p None m = elim m [ ]
+      by r p (Some t) m = ⊎_elim (λ e. ap is_x e) (λ j. elim j [ ]) (in_cons m)
 
   none_enrolled : (i : ℕ) (e : Enrolment) → keep is_x (enrolment_rows c i e) ≡ []
-  unfolding enrolment_rows keep
+  unfolding enrolment_rows
   none_enrolled i not_enrolled = refl
   none_enrolled i (enrolled id) = none_at i GroundA (held (units_of c) (content_for (aces_of c) AccessId id)) refl
   none_enrolled i (pending id) = none_at i GroundW (held (units_of c) (content_for (aces_of c) AccessId id)) refl
@@ -176,7 +171,7 @@ module _ (c : Coordinator) (stands : standing c ≡ true) where
       (or_true c.enabled _ (stood c stands).off)
 
   no_proxy_lem : c.enabled ≡ false → (p : ProxyLun) → p ∈ proxies_of c → ⊥
-  unfolding token_for find
+  unfolding token_for
   no_proxy_lem off p m =
       clashes (refers p m).1 (ap (λ ts. is_some (token_for ts p.token)) (no_tokens off))
 

@@ -13,7 +13,7 @@ use Rattle.paper.specs.Applied.{other_proxy, applied}
 use Rattle.paper.proofs.Getters.{proxies_with}
 use Rattle.paper.proofs.Stood.{stood, counted}
 use Rattle.paper.proofs.Ruled.{Ruled, ruled, stands_by}
-use Rattle.paper.proofs.FewerRows.{Some, some_all, some_gather, fewer_rows, some_rows, same_enrolment}
+use Rattle.paper.proofs.FewerRows.{Fewer, some_all, some_gather, fewer_rows, some_rows, same_enrolment}
 use Rattle.paper.proofs.Counts.{within, proxies_counted, proxies_within}
 use Rattle.paper.proofs.TablesStand.{put_proxies}
 use Rattle.paper.specs.declared.state.ProxyLun.{ProxyLun}
@@ -27,7 +27,7 @@ module _ (c : Coordinator) (q : ProxyLun → Bool) where
       put_proxies c (keep q l) w
       (record { once = pairs_keep same_proxy q l r.once; each = λ p m. r.each p (from_keep q l m).0 })
 
-  fewer_x : (i : ℕ) → Some clashing (proxy_rows (with_proxies c (keep q (proxies_of c))) i) (proxy_rows c i)
+  fewer_x : (i : ℕ) → Fewer clashing (proxy_rows (with_proxies c (keep q (proxies_of c))) i) (proxy_rows c i)
   unfolding proxy_rows
   fewer_x i =
       rw (proxies_with c (keep q (proxies_of c)))

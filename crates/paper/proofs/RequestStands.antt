@@ -2,7 +2,7 @@
 use Prim.Native.Nat.{ℕ, ◌<◌}
 use mathlib.Core.Path.{◌≡◌, refl, ap, sym, ◌∙◌, subst}
 use mathlib.Core.List.{[], ◌∷◌, ◌++◌}
-use mathlib.Core.Option.{some}
+use Rattle.std.specs.Prelude.{Some}
 use mathlib.Core.Bool.{true, false, ◌&&◌}
 use native.Mathlib.Omega.{arith}
 use lib.ListN.{length-append}
@@ -22,7 +22,7 @@ use Rattle.paper.specs.Commands.{passes, request_tests}
 use Rattle.paper.proofs.Getters.{tokens_with}
 use Rattle.paper.proofs.Stood.{stood, counted}
 use Rattle.paper.proofs.Ruled.{Ruled, ruled, stands_by, TokenRuled}
-use Rattle.paper.proofs.FewerRows.{Some, some_all, fewer_rows, some_rows, same_enrolment}
+use Rattle.paper.proofs.FewerRows.{Fewer, some_all, fewer_rows, some_rows, same_enrolment}
 use Rattle.paper.proofs.TokensAfter.{found_before}
 use Rattle.paper.proofs.Counts.{within, tokens_counted, tokens_within, on_holds}
 use Rattle.paper.proofs.TablesStand.{put_tokens}
@@ -43,7 +43,7 @@ module _ (c : Coordinator) (i l n : ℕ) (stands : standing c ≡ true) (inside 
   new = issued_token c i l n
 
   -- the row that the LUN opens by
-  opening : (r : Row) × (row_with is_ta l (rows_of c i) ≡ some r) × (r ∈ rows_of c i) × (is_ta r.ground ≡ true) × (lun_of r.lun ≡ l)
+  opening : (r : Row) × (row_with is_ta l (rows_of c i) ≡ Some r) × (r ∈ rows_of c i) × (is_ta r.ground ≡ true) × (lun_of r.lun ≡ l)
   unfolding row_with
   opening =
       let (r, e) = some_there (row_with is_ta l (rows_of c i)) passed.opens in
@@ -105,7 +105,7 @@ module _ (c : Coordinator) (i l n : ℕ) (stands : standing c ≡ true) (inside 
       rw (tokens_with c (tokens_of c ++ (new ∷ [])))
       (gather_same (row_of_proxy (tokens_of c ++ (new ∷ []))) (row_of_proxy (tokens_of c)) (keep (owned_by j) (proxies_of c)) (λ p m. ap (proxy_row p) (found p (from_keep (owned_by j) (proxies_of c) m).0)))
 
-  rows_after_lem : (j : ℕ) → Some clashing (rows_of after j) (rows_of c j)
+  rows_after_lem : (j : ℕ) → Fewer clashing (rows_of after j) (rows_of c j)
   unfolding transport_rows open_rows
   rows_after_lem j =
       some_rows c after j refl refl (some_all clashing (transport_rows c j))

@@ -3,7 +3,7 @@ use Prim.Native.Nat.{ℕ}
 use mathlib.Core.Path.{◌≡◌, refl, sym, ◌∙◌, subst}
 use mathlib.Core.Bool.{Bool, true, false, cond, ◌&&◌}
 use mathlib.Core.List.{List, [], ◌∷◌, ◌++◌}
-use mathlib.Core.Option.{some, none}
+use Rattle.std.specs.Prelude.{Some, None}
 use mathlib.Core.Logic.{⊎_elim}
 use native.Mathlib.Omega.{arith}
 use lib.Dec.{eqb}
@@ -64,44 +64,44 @@ module _ (luns : List ℕ) (on : Bool) (i random : ℕ) where
   page_03h_takes list page m e = in_manage list page m (rw e (here refl))
 
 -- when access controls go on or off, no token and no proxy LUN is left
-pub none_over_switch : (w : Setup) (h : History) (s : Switching) → ((n : ℕ) → token w (switched s ∷ h) n ≡ none) × ((i l : ℕ) → proxy_token w (switched s ∷ h) i l ≡ none)
+pub none_over_switch : (w : Setup) (h : History) (s : Switching) → ((n : ℕ) → token w (switched s ∷ h) n ≡ None) × ((i l : ℕ) → proxy_token w (switched s ∷ h) i l ≡ None)
 unfolding token proxy_token
 none_over_switch w h s = (λ n. refl, λ i l. refl)
 
 -- ---- after effects one after the other, an end among them
-behind_onto : (w : Setup) (h : History) (es : List Effect) (i l : ℕ) (t : Token) → any (assigns i l) es ≡ false → proxy_token w (onto es h) i l ≡ some t → proxy_token w h i l ≡ some t
-unfolding any onto
+behind_onto : (w : Setup) (h : History) (es : List Effect) (i l : ℕ) (t : Token) → any (assigns i l) es ≡ false → proxy_token w (onto es h) i l ≡ Some t → proxy_token w h i l ≡ Some t
+unfolding onto
 behind_onto w h [] i l t a q = q
 behind_onto w h (x ∷ es) i l t a q =
     let (b, rest) = or_false (assigns i l x) (any (assigns i l) es) a in
     behind_before w h x i l t b (behind_onto w (x ∷ h) es i l t rest q)
 
-live_onto : (w : Setup) (h : History) (es : List Effect) (n : ℕ) (t : Token) → any (issues n) es ≡ false → token w (onto es h) n ≡ some t → token w h n ≡ some t
-unfolding any onto
+live_onto : (w : Setup) (h : History) (es : List Effect) (n : ℕ) (t : Token) → any (issues n) es ≡ false → token w (onto es h) n ≡ Some t → token w h n ≡ Some t
+unfolding onto
 live_onto w h [] n t a q = q
 live_onto w h (x ∷ es) n t a q =
     let (b, rest) = or_false (issues n x) (any (issues n) es) a in
     live_before w h x n t b (live_onto w (x ∷ h) es n t rest q)
 
-gone_after : (w : Setup) (h : History) (es : List Effect) (e : Ending) (i l : ℕ) (t : Token) → tokening (ended e) ∈ es → any (assigns i l) es ≡ false → proxy_token w (onto es h) i l ≡ some t → ends e t ≡ false
-unfolding any onto
+gone_after : (w : Setup) (h : History) (es : List Effect) (e : Ending) (i l : ℕ) (t : Token) → tokening (ended e) ∈ es → any (assigns i l) es ≡ false → proxy_token w (onto es h) i l ≡ Some t → ends e t ≡ false
+unfolding onto
 gone_after w h [] e i l t m a q = elim m [ ]
 gone_after w h (x ∷ es) e i l t m a q =
     let (b, rest) = or_false (assigns i l x) (any (assigns i l) es) a in
     let later : tokening (ended e) ∈ es → ends e t ≡ false = λ k. gone_after w (x ∷ h) es e i l t k rest q in
     ⊎_elim
-    (λ k. ended_gone w h e i l t (subst (λ y. proxy_token w (y ∷ h) i l ≡ some t) (sym k) (behind_onto w (x ∷ h) es i l t rest q)))
+    (λ k. ended_gone w h e i l t (subst (λ y. proxy_token w (y ∷ h) i l ≡ Some t) (sym k) (behind_onto w (x ∷ h) es i l t rest q)))
     later
     (in_cons m)
 
-dead_after : (w : Setup) (h : History) (es : List Effect) (e : Ending) (n : ℕ) (t : Token) → tokening (ended e) ∈ es → any (issues n) es ≡ false → token w (onto es h) n ≡ some t → ends e t ≡ false
-unfolding any onto
+dead_after : (w : Setup) (h : History) (es : List Effect) (e : Ending) (n : ℕ) (t : Token) → tokening (ended e) ∈ es → any (issues n) es ≡ false → token w (onto es h) n ≡ Some t → ends e t ≡ false
+unfolding onto
 dead_after w h [] e n t m a q = elim m [ ]
 dead_after w h (x ∷ es) e n t m a q =
     let (b, rest) = or_false (issues n x) (any (issues n) es) a in
     let later : tokening (ended e) ∈ es → ends e t ≡ false = λ k. dead_after w (x ∷ h) es e n t k rest q in
     ⊎_elim
-    (λ k. ended_not_live w h e n t (subst (λ y. token w (y ∷ h) n ≡ some t) (sym k) (live_onto w (x ∷ h) es n t rest q)))
+    (λ k. ended_not_live w h e n t (subst (λ y. token w (y ∷ h) n ≡ Some t) (sym k) (live_onto w (x ∷ h) es n t rest q)))
     later
     (in_cons m)
 
@@ -116,14 +116,14 @@ managing (tokening (ended e)) = true
 managing (proxying x) = false
 
 page_manages : (luns page : List ℕ) → all managing (page_effects luns page) ≡ true
-unfolding page_effects all
+unfolding page_effects
 page_manages luns page =
     split (eqb (page_code page) 0)
     (λ p. rw p)
     (λ p. rw p (split (eqb (page_code page) 1) (λ q. rw q) (λ q. rw q (split (eqb (page_code page) 2) (λ r. rw r) (λ r. rw r (split (eqb (page_code page) 3) (λ s. rw s) (λ s. rw s)))))))
 
 manage_manages : (luns : List ℕ) (on : Bool) (list : List ℕ) → all managing (manage_effects luns on list) ≡ true
-unfolding manage_effects all
+unfolding manage_effects
 manage_manages luns on list =
     all_append managing (keyed (new_key_in list) ∷ cond on [] (switched turned_on ∷ [])) (flush ++ pages)
     ∙ rw (all_append managing flush pages, paged) (split on (λ p. rw p flushes) (λ p. rw p flushes))
@@ -172,8 +172,8 @@ end_no_issue e i l n m = ⊎_elim (λ k. let z : ◌≡◌ {A = ℕ} 0 1 = cc in
 
 -- ---- after an order that ends tokens, no X row and no number has one of them
 module _ (w : Setup) (h : History) (luns : List ℕ) (on : Bool) (i random : ℕ) (e : Ending) (t : Token) where
-  pub order_ends_lem : (o : Order) (j l : ℕ) → tokening (ended e) ∈ effects luns on i random o → proxy_token w (onto (effects luns on i random o) h) j l ≡ some t → ends e t ≡ false
-  unfolding effects any
+  pub order_ends_lem : (o : Order) (j l : ℕ) → tokening (ended e) ∈ effects luns on i random o → proxy_token w (onto (effects luns on i random o) h) j l ≡ Some t → ends e t ≡ false
+  unfolding effects
   order_ends_lem (report_acl key room) j l m q = elim m [ ]
   order_ends_lem (request_token k) j l m q = gone_after w h (tokening (issued i k random) ∷ []) e j l t m refl q
   order_ends_lem (manage_acl list) j l m q =
@@ -188,8 +188,8 @@ module _ (w : Setup) (h : History) (luns : List ℕ) (on : Bool) (i random : ℕ
   order_ends_lem (release k) j l m q = gone_after w h (proxying (released i k) ∷ []) e j l t m refl q
   order_ends_lem no_action j l m q = elim m [ ]
 
-  pub order_ends_live : (o : Order) (n : ℕ) → tokening (ended e) ∈ effects luns on i random o → token w (onto (effects luns on i random o) h) n ≡ some t → ends e t ≡ false
-  unfolding effects any
+  pub order_ends_live : (o : Order) (n : ℕ) → tokening (ended e) ∈ effects luns on i random o → token w (onto (effects luns on i random o) h) n ≡ Some t → ends e t ≡ false
+  unfolding effects
   order_ends_live (report_acl key room) n m q = elim m [ ]
   order_ends_live (request_token l) n m q = absurd (end_no_issue e i l random m)
   order_ends_live (manage_acl list) n m q =
@@ -209,27 +209,26 @@ last_took w x xs =
     answered_effects x.answer (statement_effects w.luns (is_on (took w xs)) x.statement)
 
 module _ (w : Setup) (h : History) (luns : List ℕ) (e : Ending) (j l : ℕ) (t : Token) where
-  reading_ends_lem : (on : Bool) (i random : ℕ) (r : Reading) → tokening (ended e) ∈ reading_effects luns on i random r → proxy_token w (onto (reading_effects luns on i random r) h) j l ≡ some t → ends e t ≡ false
+  reading_ends_lem : (on : Bool) (i random : ℕ) (r : Reading) → tokening (ended e) ∈ reading_effects luns on i random r → proxy_token w (onto (reading_effects luns on i random r) h) j l ≡ Some t → ends e t ≡ false
   reading_ends_lem on i random (wrong k) m q = elim m [ ]
   reading_ends_lem on i random (order o) m q = order_ends_lem w h luns on i random e t (in_force on o) j l m q
 
-  link_ends : (on : Bool) (i : ℕ) → tokening (ended e) ∈ link_effects on i → proxy_token w (onto (link_effects on i) h) j l ≡ some t → ends e t ≡ false
-  unfolding any
+  link_ends : (on : Bool) (i : ℕ) → tokening (ended e) ∈ link_effects on i → proxy_token w (onto (link_effects on i) h) j l ≡ Some t → ends e t ≡ false
   link_ends true i m q = gone_after w h (enrolling (link_event i) ∷ []) e j l t m refl q
   link_ends false i m q = elim m [ ]
 
-  statement_ends : (on : Bool) (s : Statement) → tokening (ended e) ∈ statement_effects luns on s → proxy_token w (onto (statement_effects luns on s) h) j l ≡ some t → ends e t ≡ false
+  statement_ends : (on : Bool) (s : Statement) → tokening (ended e) ∈ statement_effects luns on s → proxy_token w (onto (statement_effects luns on s) h) j l ≡ Some t → ends e t ≡ false
   unfolding statement_effects
   statement_ends on (command i cdb list random) m q = reading_ends_lem on i random (reading_of cdb list) m q
   statement_ends on (link i) m q = link_ends on i m q
 
-  answered_ends : (a : Answer) (on : Bool) (s : Statement) → tokening (ended e) ∈ answered_effects a (statement_effects luns on s) → proxy_token w (onto (answered_effects a (statement_effects luns on s)) h) j l ≡ some t → ends e t ≡ false
+  answered_ends : (a : Answer) (on : Bool) (s : Statement) → tokening (ended e) ∈ answered_effects a (statement_effects luns on s) → proxy_token w (onto (answered_effects a (statement_effects luns on s)) h) j l ≡ Some t → ends e t ≡ false
   answered_ends Good on s m q = statement_ends on s m q
   answered_ends (Check k) on s m q = elim m [ ]
   answered_ends (Refused n) on s m q = elim m [ ]
 
 -- "A token's end ends its proxy LUNs for everybody.": after a statement that ended tokens, no initiator's proxy LUN has one of them
-pub statement_gone : (w : Setup) (x : Entry) (xs : List Entry) (e : Ending) → tokening (ended e) ∈ last_took w x xs → (i l : ℕ) (t : Token) → proxy_token w (took w (x ∷ xs)) i l ≡ some t → ends e t ≡ false
+pub statement_gone : (w : Setup) (x : Entry) (xs : List Entry) (e : Ending) → tokening (ended e) ∈ last_took w x xs → (i l : ℕ) (t : Token) → proxy_token w (took w (x ∷ xs)) i l ≡ Some t → ends e t ≡ false
 unfolding took
 statement_gone w x xs e m i l t q =
     answered_ends w (took w xs) w.luns e i l t x.answer (is_on (took w xs)) x.statement m q

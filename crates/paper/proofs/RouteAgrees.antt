@@ -2,7 +2,7 @@
 use Prim.Native.Nat.{ℕ, ◌<◌}
 use mathlib.Core.Path.{◌≡◌, refl, ap, sym, ◌∙◌, subst}
 use mathlib.Core.Bool.{Bool, true, false, cond, ◌&&◌}
-use mathlib.Core.Option.{Option, some, none}
+use Rattle.std.specs.Prelude.{Option, Some, None}
 use native.Mathlib.Omega.{arith}
 use borrow.Author.Tests.{lt-leb, eqb-true, eq-eqb}
 use Rattle.lists.specs.Lists.{◌∈◌}
@@ -67,9 +67,9 @@ module _ (w : Setup) (h : History) (c : Coordinator) (holds : Holds w h c) (i : 
   passes on x = rw (x.ground, eq-eqb (lun_of x.row.lun) l x.lun)
 
   -- ---- a unit is answered where the list has a row that is no W row, and it is that row's
-  opens_one : (o : Option Row) (k : Condition) {u : ℕ} → opens_or o k ≡ Opens u → (r : Row) × (o ≡ some r) × (r.unit ≡ u)
-  opens_one none k e = let z : ◌≡◌ {A = ℕ} 0 1 = cc in absurd (omega arith)
-  opens_one (some r) k e = (r, refl, cc)
+  opens_one : (o : Option Row) (k : Condition) {u : ℕ} → opens_or o k ≡ Opens u → (r : Row) × (o ≡ Some r) × (r.unit ≡ u)
+  opens_one None k e = let z : ◌≡◌ {A = ℕ} 0 1 = cc in absurd (omega arith)
+  opens_one (Some r) k e = (r, refl, cc)
 
   pub route_unit : (u : ℕ) → routed c i l ≡ Opens u → (x : Listed c i l not_w) × (x.row.unit ≡ u)
   unfolding opens row_with as_listed
@@ -80,9 +80,9 @@ module _ (w : Setup) (h : History) (c : Coordinator) (holds : Holds w h c) (i : 
 
   found : (x : Listed c i l not_w) (o : Option Row) (k : Condition) → row_with opens_by l (rows_of c i) ≡ o → opens_or o k ≡ Opens x.row.unit
   unfolding row_with
-  found x none k e =
+  found x None k e =
       clashes (passes not_w x) (find_none (λ r. not_w r && has_lun l r) e (own_row x.in_list x.initiator))
-  found x (some r) k e =
+  found x (Some r) k e =
       let (m, p) = find_in (λ q. not_w q && has_lun l q) (rows_of c i) e in
       let lun = eqb-true (lun_of r.lun) l (and_true (not_w r) (has_lun l r) p).1 in
       let same : r.lun ≡ x.row.lun = omega (arith, lun, x.lun) in
@@ -94,19 +94,19 @@ module _ (w : Setup) (h : History) (c : Coordinator) (holds : Holds w h c) (i : 
       asked ∙ found x (row_with opens_by l (rows_of c i)) (cond (pending_has l (rows_of c i)) PendingEnrolled OpensNothing) refl
 
   -- ---- 20h/01h is answered where W rows have the LUN, and no other row has it
-  closed_none : (o : Option Row) (k : Condition) {j : Condition} → opens_or o k ≡ Closed j → (o ≡ none) × (k ≡ j)
-  closed_none none k e = (refl, cc)
-  closed_none (some r) k e = let z : ◌≡◌ {A = ℕ} 0 1 = cc in absurd (omega arith)
+  closed_none : (o : Option Row) (k : Condition) {j : Condition} → opens_or o k ≡ Closed j → (o ≡ None) × (k ≡ j)
+  closed_none None k e = (refl, cc)
+  closed_none (Some r) k e = let z : ◌≡◌ {A = ℕ} 0 1 = cc in absurd (omega arith)
 
-  no_other : row_with opens_by l (rows_of c i) ≡ none → Listed c i l not_w → ⊥
+  no_other : row_with opens_by l (rows_of c i) ≡ None → Listed c i l not_w → ⊥
   unfolding row_with
   no_other e x =
       clashes (passes not_w x) (find_none (λ r. not_w r && has_lun l r) e (own_row x.in_list x.initiator))
 
-  none_there : (Listed c i l not_w → ⊥) → (o : Option Row) → row_with opens_by l (rows_of c i) ≡ o → o ≡ none
+  none_there : (Listed c i l not_w → ⊥) → (o : Option Row) → row_with opens_by l (rows_of c i) ≡ o → o ≡ None
   unfolding row_with
-  none_there n none e = refl
-  none_there n (some r) e =
+  none_there n None e = refl
+  none_there n (Some r) e =
       let (m, p) = find_in (λ q. not_w q && has_lun l q) (rows_of c i) e in absurd (n (as_listed not_w m p))
 
   some_pending : (b : Bool) → cond b PendingEnrolled OpensNothing ≡ PendingEnrolled → b ≡ true

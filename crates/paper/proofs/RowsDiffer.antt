@@ -3,7 +3,7 @@ use Prim.Native.Nat.{ℕ, suc, ◌≤◌}
 use mathlib.Core.Path.{◌≡◌, refl, ap, sym, ◌∙◌}
 use mathlib.Core.Bool.{Bool, true, false, cond, not}
 use mathlib.Core.List.{List, [], ◌∷◌, ◌++◌}
-use mathlib.Core.Option.{Option, some, none}
+use Rattle.std.specs.Prelude.{Option, Some, None}
 use mathlib.Core.Logic.{⊎_elim}
 use native.Mathlib.Omega.{arith}
 use borrow.Author.Tests.{not-true, eq-eqb}
@@ -81,7 +81,7 @@ module _ (c : Coordinator) (s : Stood c) where
 
   -- an X row is its proxy LUN's, and one initiator's proxy LUNs differ in their LUN
   proxies_differ : (ps : List ProxyLun) → pairs same_proxy ps ≡ false → Different (gather (row_of_proxy (tokens_of c)) ps)
-  unfolding gather pairs Different
+  unfolding pairs Different
   proxies_differ [] e = tt
   proxies_differ (p ∷ ps) e =
       let parted = or_false (any (same_proxy p) ps) (pairs same_proxy ps) e in
@@ -89,12 +89,12 @@ module _ (c : Coordinator) (s : Stood c) where
       (λ x h k. let (q, m, g) = from_gather (row_of_proxy (tokens_of c)) ps k in clashes (same q x (of_proxy p x (token_for (tokens_of c) p.token) h) (of_proxy q x (token_for (tokens_of c) q.token) g)) (any_none (same_proxy p) parted.0 m))
     where
       one : (o : Option Token) → Different (proxy_row p o)
-      one none = tt
-      one (some t) = (λ h. elim h [ ], tt)
+      one None = tt
+      one (Some t) = (λ h. elim h [ ], tt)
 
       of_proxy : (q : ProxyLun) (x : Row) (o : Option Token) → x ∈ proxy_row q o → (x.initiator ≡ q.initiator) × (x.lun ≡ q.lun)
-      of_proxy q x none h = elim h [ ]
-      of_proxy q x (some t) h = ⊎_elim (λ e. (ap (λ r. r.initiator) e, ap (λ r. r.lun) e)) (λ k. elim k [ ]) (in_cons h)
+      of_proxy q x None h = elim h [ ]
+      of_proxy q x (Some t) h = ⊎_elim (λ e. (ap (λ r. r.initiator) e, ap (λ r. r.lun) e)) (λ k. elim k [ ]) (in_cons h)
 
       same : (q : ProxyLun) (x : Row) → (x.initiator ≡ p.initiator) × (x.lun ≡ p.lun) → (x.initiator ≡ q.initiator) × (x.lun ≡ q.lun) → same_proxy p q ≡ true
       same q x a b =

@@ -3,7 +3,7 @@ use Prim.Native.Nat.{ℕ, ◌<◌}
 use mathlib.Core.Path.{◌≡◌, refl, ap, sym, ◌∙◌, subst}
 use mathlib.Core.Bool.{true, false}
 use mathlib.Core.List.{◌++◌}
-use mathlib.Core.Option.{Option, some, none}
+use Rattle.std.specs.Prelude.{Option, Some, None}
 use native.Mathlib.Omega.{arith}
 use lib.ListN.{length}
 use lib.Dec.{eqb}
@@ -59,10 +59,10 @@ module _ (w : Setup) (h : History) (c : Coordinator) (a : Agrees w h c) (o : Sou
   on_enrolment i on m = from_enrolment i (enrolment h i) on refl (rw (a.enrolments i) at m)
 
   -- the token of a proxy LUN in the table is the one behind it
-  proxy_behind : (i : ℕ) {p : ProxyLun} {t : Token} → p ∈ proxies_of c → p.initiator ≡ i → token_for (tokens_of c) p.token ≡ some t → proxy_token w h i (lun_of p.lun) ≡ some t
+  proxy_behind : (i : ℕ) {p : ProxyLun} {t : Token} → p ∈ proxies_of c → p.initiator ≡ i → token_for (tokens_of c) p.token ≡ Some t → proxy_token w h i (lun_of p.lun) ≡ Some t
   proxy_behind i {p} {t} m own e =
       let passes : is_proxy i (lun_of p.lun) p ≡ true = rw (eq-eqb p.initiator i own, eq-eqb (lun_of p.lun) (lun_of p.lun) refl) in
-      let found : find (is_proxy i (lun_of p.lun)) (proxies_of c) ≡ some p = find_once (is_proxy i (lun_of p.lun)) (o.proxies i (lun_of p.lun)) m passes in
+      let found : find (is_proxy i (lun_of p.lun)) (proxies_of c) ≡ Some p = find_once (is_proxy i (lun_of p.lun)) (o.proxies i (lun_of p.lun)) m passes in
       sym (a.proxies i (lun_of p.lun)) ∙ rw found e
 
   on_x_lem : (i : ℕ) {r : Row} → is_on h ≡ true → r ∈ proxy_rows c i → On w h r.ground i r.lun r.unit
@@ -80,12 +80,12 @@ module _ (w : Setup) (h : History) (c : Coordinator) (a : Agrees w h c) (o : Sou
   enrolment_row i l u (enrolled id) = (λ k. in_map (row_at i GroundA) (subst (λ ps. place l u ∈ ps) (sym (holds_given w h c a AccessId id)) k), λ k. elim k [ ])
   enrolment_row i l u (pending id) = (λ k. elim k [ ], λ k. in_map (row_at i GroundW) (subst (λ ps. place l u ∈ ps) (sym (holds_given w h c a AccessId id)) k))
 
-  X_row : (i l u : ℕ) → (t : Token) → proxy_token w h i (lun_of l) ≡ some t → t.unit ≡ u → row_at i GroundX (place l u) ∈ proxy_rows c i
+  X_row : (i l u : ℕ) → (t : Token) → proxy_token w h i (lun_of l) ≡ Some t → t.unit ≡ u → row_at i GroundX (place l u) ∈ proxy_rows c i
   X_row i l u t e q = by (find (is_proxy i (lun_of l)) (proxies_of c)) refl (a.proxies i (lun_of l) ∙ e)
     where
-      by : (p : Option ProxyLun) → find (is_proxy i (lun_of l)) (proxies_of c) ≡ p → token_behind (tokens_of c) p ≡ some t → row_at i GroundX (place l u) ∈ proxy_rows c i
-      by none f g = absurd (none_not_some g)
-      by (some p) f g =
+      by : (p : Option ProxyLun) → find (is_proxy i (lun_of l)) (proxies_of c) ≡ p → token_behind (tokens_of c) p ≡ Some t → row_at i GroundX (place l u) ∈ proxy_rows c i
+      by None f g = absurd (none_not_some g)
+      by (Some p) f g =
           let (m, passes) = find_in (is_proxy i (lun_of l)) (proxies_of c) f in
           let (own, at) = and_true (eqb p.initiator i) (eqb (lun_of p.lun) (lun_of l)) passes in
           let same : p.lun ≡ l = eqb-true p.lun l (sym (same_lun p.lun l) ∙ at) in

@@ -3,7 +3,7 @@ use Prim.Native.Nat.{ℕ, ◌≤◌, ◌<◌}
 use mathlib.Core.Path.{◌≡◌, refl, sym, subst}
 use mathlib.Core.Bool.{true, false}
 use mathlib.Core.List.{List, [], ◌∷◌}
-use mathlib.Core.Option.{some}
+use Rattle.std.specs.Prelude.{Some}
 use mathlib.Core.Logic.{◌↔◌, ⊎_elim}
 use lib.ListN.{length}
 use Rattle.lists.specs.Lists.{◌∈◌, any, keep, is_some}
@@ -48,7 +48,7 @@ module _ (ids luns : List ℕ) (s : Started) (kept : SetupKept ids luns s) (ok :
   revoked_gone c x es calls e m r k g = none_listed w x es c e (run_holds ids luns s kept ok c (x ∷ es) calls) m r k g
 
   -- a number is not issued while it stands for a live token
-  not_issued : (c : Coordinator) (x : Entry) (es : List Entry) → Calls s.state c (x ∷ es) → (n : ℕ) (t : Token) → token w (took w es) n ≡ some t → any (issues n) (last_took w x es) ≡ false
+  not_issued : (c : Coordinator) (x : Entry) (es : List Entry) → Calls s.state c (x ∷ es) → (n : ℕ) (t : Token) → token w (took w es) n ≡ Some t → any (issues n) (last_took w x es) ≡ false
   not_issued c x es (commanded {c = now} i cdb list random buffer calls k) n t live =
       subst
       (λ (o : Outcome). any (issues n) (last_took w (record { statement = command i cdb list random; answer = o.answer }) es) ≡ false)
@@ -58,14 +58,14 @@ module _ (ids luns : List ℕ) (s : Started) (kept : SetupKept ids luns s) (ok :
       link_new w.luns (is_on (took w es)) n i r.answer
 
   -- "A token outlives its requester's own access (H).": after a statement that does not end it, it is live as it was
-  pub outlives_in_run : (c : Coordinator) (x : Entry) (es : List Entry) → Calls s.state c (x ∷ es) → (n : ℕ) (t : Token) → entry_ends t x.statement ≡ false → token w (took w es) n ≡ some t → token w (took w (x ∷ es)) n ≡ some t
+  pub outlives_in_run : (c : Coordinator) (x : Entry) (es : List Entry) → Calls s.state c (x ∷ es) → (n : ℕ) (t : Token) → entry_ends t x.statement ≡ false → token w (took w es) n ≡ Some t → token w (took w (x ∷ es)) n ≡ Some t
   outlives_in_run c x es calls n t spared live =
       outlives_entry w x es n t spared (not_issued c x es calls n t live) live
 
   -- so REVOKE, 08h, pages 02h and 03h and DISABLE alone end a token: a statement after which it is not live as it was is one of these that ends it, and was answered GOOD
-  pub ended_by : (c : Coordinator) (x : Entry) (es : List Entry) → Calls s.state c (x ∷ es) → (n : ℕ) (t : Token) → token w (took w es) n ≡ some t → (token w (took w (x ∷ es)) n ≡ some t → ⊥) → (x.answer ≡ Good) × (entry_ends t x.statement ≡ true)
+  pub ended_by : (c : Coordinator) (x : Entry) (es : List Entry) → Calls s.state c (x ∷ es) → (n : ℕ) (t : Token) → token w (took w es) n ≡ Some t → (token w (took w (x ∷ es)) n ≡ Some t → ⊥) → (x.answer ≡ Good) × (entry_ends t x.statement ≡ true)
   ended_by c x es calls n t live gone = (
-    ⊎_elim (λ g. g) (λ same. absurd (gone (subst (λ k. token w k n ≡ some t) (sym same) live))) (good_or_same w x es),
+    ⊎_elim (λ g. g) (λ same. absurd (gone (subst (λ k. token w k n ≡ Some t) (sym same) live))) (good_or_same w x es),
     split (entry_ends t x.statement) (λ e. e) (λ e. absurd (gone (outlives_in_run c x es calls n t e live))),
   )
 

@@ -2,11 +2,11 @@
 use Prim.Native.Nat.{ℕ, ◌+◌}
 use mathlib.Core.Path.{◌≡◌, refl}
 use mathlib.Core.List.{List, [], ◌∷◌, ◌++◌}
-use mathlib.Core.Option.{some, none}
+use Rattle.std.specs.Prelude.{Some, None}
 use mathlib.Core.Bool.{true, false}
 use native.Mathlib.Omega.{arith}
 use lib.ListN.{replicate}
-use Rattle.lists.specs.Lists.{here, find, place_of, keep, any, gather, parts, nth}
+use Rattle.lists.specs.Lists.{here, place_of, parts, nth}
 use Rattle.lists.specs.Bytes.{be, be_bytes, same_bytes}
 use Rattle.lists.specs.Pages.{page_size, pages_up_to, pages_of}
 use Rattle.wire.specs.Lun.{lun_of}
@@ -61,7 +61,6 @@ named_ends = (refl, refl, refl)
 
 -- "revokes the tokens it lists", whosever they are; "revokes all"
 pub listed_ends : (ends (listed (8 ∷ (7 ∷ []))) seven ≡ true) × (ends (listed (8 ∷ [])) seven ≡ false) × (ends all_tokens seven ≡ true)
-unfolding any
 listed_ends = (refl, refl, refl)
 
 -- ---- enrolments
@@ -91,12 +90,12 @@ off_so = (refl, refl, refl, refl)
 
 -- pages 00h, 01h, 02h and 03h, in their order
 pub pages_so : manage_effects (5 ∷ []) true (manage 1 (grant 1 transport (luacd 1 0 ∷ []) ∷ ((0x01 ∷ (0 ∷ (0 ∷ (28 ∷ (0x80 ∷ (0 ∷ (0 ∷ (24 ∷ access)))))))) ∷ ((0x02 ∷ (0 ∷ (0 ∷ (8 ∷ be_bytes 8 7)))) ∷ ((0x03 ∷ (0 ∷ (0 ∷ (0 ∷ [])))) ∷ []))))) ≡ keyed 0 ∷ (granted TransportId transport (these (at 1 0 ∷ [])) false ∷ (granted AccessId (replicate 16 9 ++ replicate 8 0) everything true ∷ (tokening (ended (listed (7 ∷ []))) ∷ (tokening (ended all_tokens) ∷ []))))
-unfolding manage_effects page_effects ace_pages page_size pages_of pages_up_to page_luacds not_overruled descriptors_in descriptor_in tokens_in be be_bytes parts gather any place_of
+unfolding manage_effects page_effects ace_pages page_size pages_of pages_up_to page_luacds not_overruled descriptors_in descriptor_in tokens_in be be_bytes parts place_of
 pages_so = refl
 
 -- "access controls are on", where they were off
 pub on_so : manage_effects (5 ∷ []) false (manage 0 []) ≡ keyed 0 ∷ (switched turned_on ∷ [])
-unfolding manage_effects ace_pages pages_of pages_up_to be be_bytes gather
+unfolding manage_effects ace_pages pages_of pages_up_to be be_bytes
 on_so = refl
 
 -- ---- readings of a history, newest first
@@ -108,12 +107,12 @@ begun = granted TransportId transport (these (at 1 0 ∷ [])) false ∷ (switche
 abbrev again : History
 again = switched turned_on ∷ (switched turned_off ∷ (tokening (issued 0 (lun_of 1) 7) ∷ (enrolling (joined 0 access) ∷ begun)))
 
-pub since_on : (is_on again ≡ true) × (last_page again TransportId transport ≡ none) × (enrolment again 0 ≡ not_enrolled) × (token three again 7 ≡ none)
+pub since_on : (is_on again ≡ true) × (last_page again TransportId transport ≡ None) × (enrolment again 0 ≡ not_enrolled) × (token three again 7 ≡ None)
 unfolding is_on last_page enrolment token
 since_on = (refl, refl, refl, refl)
 
 -- the last page for an identifier; an AccessID's page is none for a TransportID
-pub last_page_lem : (last_page (granted TransportId transport everything false ∷ begun) TransportId transport ≡ some everything) × (last_page begun AccessId transport ≡ none)
+pub last_page_lem : (last_page (granted TransportId transport everything false ∷ begun) TransportId transport ≡ Some everything) × (last_page begun AccessId transport ≡ None)
 unfolding last_page same_id same_bytes
 last_page_lem = (refl, refl)
 
@@ -126,26 +125,26 @@ enrolled_so = (refl, refl, refl)
 abbrev got : History
 got = tokening (issued 0 (lun_of 1) 7) ∷ begun
 
-pub token_so : (token three got 7 ≡ some (record { number = 7; unit = 0; requester = 0; lun = 1 })) × (token three (tokening (issued 0 (lun_of 2) 7) ∷ begun) 7 ≡ none) × (token three (tokening (issued 1 (lun_of 1) 7) ∷ begun) 7 ≡ none)
-unfolding token place_named last_page enrolment find nth same_id same_bytes
+pub token_so : (token three got 7 ≡ Some (record { number = 7; unit = 0; requester = 0; lun = 1 })) × (token three (tokening (issued 0 (lun_of 2) 7) ∷ begun) 7 ≡ None) × (token three (tokening (issued 1 (lun_of 1) 7) ∷ begun) 7 ≡ None)
+unfolding token place_named last_page enrolment nth same_id same_bytes
 token_so = (refl, refl, refl)
 
 -- "tokens issued less tokens ended": two issued, one ended; one issued by naming nothing counts as none
 pub live_so : (issued_less_ended three (tokening (ended (own 0 7)) ∷ (tokening (issued 0 (lun_of 1) 8) ∷ got)) ≡ 1) × (issued_less_ended three (tokening (issued 0 (lun_of 2) 9) ∷ got) ≡ 1)
-unfolding live_tokens place_named last_page enrolment find nth same_id same_bytes keep
+unfolding live_tokens place_named last_page enrolment nth same_id same_bytes
 live_so = (refl, refl)
 
 -- "a usable number"
 pub usable_so : (usable three got 0 ≡ false) × (usable three got 7 ≡ false) × (usable three got 8 ≡ true) × (usable three (tokening (ended all_tokens) ∷ got) 7 ≡ true)
-unfolding token place_named last_page enrolment find nth same_id same_bytes
+unfolding token place_named last_page enrolment nth same_id same_bytes
 usable_so = (refl, refl, refl, refl)
 
 -- "Each issue is a new token, even with a number used before.": a proxy LUN does not come back with its number; nor does another initiator's release end it
 abbrev proxied : History
 proxied = proxying (assigned 0 (lun_of 3) 7) ∷ got
 
-pub proxy_so : (proxy_token three proxied 0 (lun_of 3) ≡ some (record { number = 7; unit = 0; requester = 0; lun = 1 })) × (proxy_token three (tokening (issued 0 (lun_of 1) 7) ∷ (tokening (ended (own 0 7)) ∷ proxied)) 0 (lun_of 3) ≡ none) × (proxy_token three (proxying (released 0 (lun_of 3)) ∷ proxied) 0 (lun_of 3) ≡ none) × (proxy_token three (proxying (released 1 (lun_of 3)) ∷ proxied) 0 (lun_of 3) ≡ some (record { number = 7; unit = 0; requester = 0; lun = 1 }))
-unfolding proxy_token token place_named last_page enrolment find nth same_id same_bytes
+pub proxy_so : (proxy_token three proxied 0 (lun_of 3) ≡ Some (record { number = 7; unit = 0; requester = 0; lun = 1 })) × (proxy_token three (tokening (issued 0 (lun_of 1) 7) ∷ (tokening (ended (own 0 7)) ∷ proxied)) 0 (lun_of 3) ≡ None) × (proxy_token three (proxying (released 0 (lun_of 3)) ∷ proxied) 0 (lun_of 3) ≡ None) × (proxy_token three (proxying (released 1 (lun_of 3)) ∷ proxied) 0 (lun_of 3) ≡ Some (record { number = 7; unit = 0; requester = 0; lun = 1 }))
+unfolding proxy_token token place_named last_page enrolment nth same_id same_bytes
 proxy_so = (refl, refl, refl, refl)
 
 -- ---- "No LUN opens two units for one initiator" says something: T gives LUN 1 to unit 0, and A gives it to unit 1

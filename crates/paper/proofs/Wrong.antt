@@ -2,9 +2,9 @@
 use Prim.Native.Nat.{ℕ, ◌+◌}
 use mathlib.Core.Path.{◌≡◌, refl, sym, ◌∙◌}
 use mathlib.Core.List.{List, [], ◌∷◌, map}
-use mathlib.Core.Option.{none}
+use Rattle.std.specs.Prelude.{None}
 use native.Mathlib.Omega.{arith}
-use Rattle.lists.specs.Lists.{◌∈◌, here, there, find, place_of, keep, any, gather, parts, count, nth}
+use Rattle.lists.specs.Lists.{◌∈◌, here, there, place_of, parts, count, nth}
 use Rattle.lists.specs.Order.{insert, sort}
 use Rattle.lists.specs.Bytes.{be, be_bytes, same_bytes}
 use Rattle.lists.specs.Pages.{page_size, pages_up_to, pages_of}
@@ -75,12 +75,12 @@ assigning =
 
 -- what that coordinator's reach list has
 rows : (reach_rows (untested naming) ≡ by_x 3 0 ∷ []) × (reach_rows (untested absent) ≡ by_t 1 3 ∷ []) × (reach_rows (untested misformed) ≡ by_t 256 0 ∷ []) × (reach_rows (untested assigning) ≡ by_t 1 0 ∷ (by_x 3 0 ∷ []))
-unfolding untested statement_effects reading_of read_in read_out exactly read_manage read_cancel in_force effects manage_effects page_effects ace_pages page_size pages_of pages_up_to page_luacds not_overruled descriptors_in descriptor_in tokens_in applied applied_all fresh put_ace be be_bytes is_on reach_rows rows_of transport_rows enrolment_rows open_rows proxy_rows token_for ace_for row_with row_before sort insert count parts gather keep any find place_of same_id same_bytes numbered
+unfolding untested statement_effects reading_of read_in read_out exactly read_manage read_cancel in_force effects manage_effects page_effects ace_pages page_size pages_of pages_up_to page_luacds not_overruled descriptors_in descriptor_in tokens_in applied applied_all fresh put_ace be be_bytes is_on reach_rows rows_of transport_rows enrolment_rows open_rows proxy_rows token_for ace_for row_with row_before sort insert count parts place_of same_id same_bytes numbered
 rows = (refl, refl, refl, refl)
 
 -- the history knows no token behind these proxy LUNs
-unknown : (proxy_token three (took three (transcript naming)) 0 (lun_of 3) ≡ none) × (proxy_token three (took three (transcript assigning)) 0 (lun_of 3) ≡ none)
-unfolding took onto statement_effects reading_of read_in read_out exactly read_manage read_cancel in_force effects manage_effects page_effects ace_pages page_size pages_of pages_up_to page_luacds not_overruled descriptors_in descriptor_in tokens_in be be_bytes is_on proxy_token token place_named last_page enrolment parts gather any find place_of nth same_id same_bytes
+unknown : (proxy_token three (took three (transcript naming)) 0 (lun_of 3) ≡ None) × (proxy_token three (took three (transcript assigning)) 0 (lun_of 3) ≡ None)
+unfolding took onto statement_effects reading_of read_in read_out exactly read_manage read_cancel in_force effects manage_effects page_effects ace_pages page_size pages_of pages_up_to page_luacds not_overruled descriptors_in descriptor_in tokens_in be be_bytes is_on proxy_token token place_named last_page enrolment parts place_of nth same_id same_bytes
 unknown = (refl, refl)
 
 -- ---- none of them agrees

@@ -1,5 +1,5 @@
 -- "Statuses and numbers": what each case of the answers means in the paper. "Where an answer is an enum, a definition sets out this paper's number and values for each of its cases."
-use Rattle.std.specs.Prelude.{ℕ, List, [], ◌∷◌, replicate}
+use Rattle.std.specs.Prelude.{ℕ, List, [], ◌∷◌, replicate, Option, Some, None}
 use Rattle.paper.specs.declared.answers.Refusal.{Refusal}
 use Rattle.paper.specs.declared.answers.Refusal.TheVariants.{BadSetup, BadState, NoInitiator, BadCdb, BadParameters, ShortBuffer}
 use Rattle.paper.specs.declared.answers.Condition.{Condition}
@@ -9,8 +9,6 @@ use Rattle.paper.specs.declared.answers.Answer.{Answer}
 use Rattle.paper.specs.declared.answers.Answer.TheVariants.{Good, Check, Refused}
 use Rattle.paper.specs.declared.answers.Opened.{Opened}
 use Rattle.paper.specs.declared.answers.Opened.TheVariants.{Opens, Closed, Barred}
-use Rattle.paper.specs.declared.answers.Status.{Status}
-use Rattle.paper.specs.declared.answers.Status.TheVariants.{Byte, NoStatus}
 use Rattle.paper.specs.declared.answers.Values.{Values}
 
 -- "House refusals, tested in this order. They return the number"
@@ -51,10 +49,10 @@ sense_of k = sense_bytes (code_of k)
 
 -- ---- an answer: its status, the number of its refusal and its sense
 -- "a command answers GOOD (00h, sense all zero) or CHECK CONDITION (02h)"; a refusal has a number and no status
-abbrev pub status_of : Answer → Status
-status_of Good = Byte 0x00
-status_of (Check k) = Byte 0x02
-status_of (Refused n) = NoStatus
+abbrev pub status_of : Answer → Option ℕ
+status_of Good = Some 0x00
+status_of (Check k) = Some 0x02
+status_of (Refused n) = None
 
 -- refusals are numbered from 1; what is not refused has the number 0
 abbrev pub number_for : Answer → ℕ

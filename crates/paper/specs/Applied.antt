@@ -1,6 +1,6 @@
 -- What each effect does to the tables.
 use Rattle.std.specs.Prelude.{ℕ, List, [], ◌∷◌, ◌++◌, map, Bool, true, false, cond, not, ◌&&◌, set, eqb}
-use Rattle.std.proofs.Math.Option.{Option, some, none}
+use Rattle.std.specs.Prelude.{Option, Some, None}
 use Rattle.lists.specs.Lists.{keep}
 use Rattle.wire.specs.Lun.{lun_of, head_of}
 use Rattle.paper.specs.Grounds.{is_ta}
@@ -49,8 +49,8 @@ after_enrolling c (link_event i) = with_enrolments c (set (enrolments_of c) i (s
 -- ---- tokens
 -- the unit that a LUN opens for an initiator by a T or A row. REQUEST PROXY TOKEN has tested that there is such a row; a coordinator that has not would open unit 0, and the history does not know that token
 abbrev pub unit_in : Option Row → ℕ
-unit_in none = 0
-unit_in (some r) = r.unit
+unit_in None = 0
+unit_in (Some r) = r.unit
 
 abbrev pub issued_token : Coordinator → ℕ → ℕ → ℕ → Token
 issued_token c i l n =
@@ -58,8 +58,8 @@ issued_token c i l n =
 
 -- "A token's end ends its proxy LUNs for everybody."
 abbrev pub ends_some : Ending → Option Token → Bool
-ends_some e none = false
-ends_some e (some t) = ends e t
+ends_some e None = false
+ends_some e (Some t) = ends e t
 
 abbrev pub rests_on_ended : Ending → List Token → ProxyLun → Bool
 rests_on_ended e ts p = ends_some e (token_for ts p.token)

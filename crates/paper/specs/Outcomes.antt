@@ -1,6 +1,6 @@
 -- The public functions: what is decided on every input, and the outcome of a decision.
 use Rattle.std.specs.Prelude.{ℕ, List, [], cond, not, length, take, eqb, leb, ltb}
-use Rattle.std.proofs.Math.Option.{Option, some, none}
+use Rattle.std.specs.Prelude.{Option, Some, None}
 use Rattle.lists.specs.Bytes.{be_bytes, deliver}
 use Rattle.paper.specs.Answers.{values_of, answer_of}
 use Rattle.paper.specs.Grounds.{opens_by}
@@ -106,8 +106,8 @@ buffer_after (good es bytes) buffer = deliver bytes buffer
 
 -- ---- "Route: the unit of a T, A, X or O row with that LUN; else 20h/01h if W has it; else 25h/00h."
 abbrev pub opens_or : Option Row → Condition → Opened
-opens_or none k = Closed k
-opens_or (some r) k = Opens r.unit
+opens_or None k = Closed k
+opens_or (Some r) k = Opens r.unit
 
 unfoldable pub opens : ℕ → List Row → Opened
 opens l rows = opens_or (row_with opens_by l rows) (cond (pending_has l rows) PendingEnrolled OpensNothing)

@@ -1,6 +1,6 @@
 -- The history, what took effect, and what stands by it. The imports show that no table is read: the setup, the effects, and what an identifier or an ACE is.
 use Rattle.std.specs.Prelude.{ℕ, ◌<◌, ◌≡◌, List, [], ◌∷◌, ◌++◌, Bool, true, false, cond, not, ◌&&◌, length, eqb}
-use Rattle.std.proofs.Math.Option.{Option, some, none}
+use Rattle.std.specs.Prelude.{Option, Some, None}
 use Rattle.lists.specs.Lists.{◌∈◌, find, keep, nth, is_some}
 use Rattle.wire.specs.Lun.{lun_of, head_of}
 use Rattle.paper.specs.Identifiers.{same_id}
@@ -37,10 +37,10 @@ is_on (proxying x ∷ h) = is_on h
 
 -- ---- pages: the last one for an identifier, since access controls were last turned on
 unfoldable pub last_page : History → IdType → List ℕ → Option Content
-last_page [] k id = none
-last_page (switched s ∷ h) k id = none
+last_page [] k id = None
+last_page (switched s ∷ h) k id = None
 last_page (keyed x ∷ h) k id = last_page h k id
-last_page (granted l a content n ∷ h) k id = cond (same_id l a k id) (some content) (last_page h k id)
+last_page (granted l a content n ∷ h) k id = cond (same_id l a k id) (Some content) (last_page h k id)
 last_page (enrolling x ∷ h) k id = last_page h k id
 last_page (tokening x ∷ h) k id = last_page h k id
 last_page (proxying x ∷ h) k id = last_page h k id
@@ -65,12 +65,12 @@ enrolment (proxying x ∷ h) i = enrolment h i
 -- ---- what an identifier gives: the units, each at its LUN, of the last page for it
 -- an identifier for which there was no page gives nothing
 abbrev pub on_page : Setup → Option Content → List Luacd
-on_page w none = []
-on_page w (some content) = held w.luns content
+on_page w None = []
+on_page w (Some content) = held w.luns content
 
 abbrev pub given_to : Setup → History → IdType → Option (List ℕ) → List Luacd
-given_to w h k none = []
-given_to w h k (some id) = on_page w (last_page h k id)
+given_to w h k None = []
+given_to w h k (Some id) = on_page w (last_page h k id)
 
 -- the TransportID of an initiator, if there is one of that number
 abbrev pub transport_id : Setup → ℕ → Option (List ℕ)
@@ -78,14 +78,14 @@ transport_id w i = nth w.transports i
 
 -- the AccessID under which an initiator is enrolled, and under which it is pending
 abbrev pub enrolled_under : Enrolment → Option (List ℕ)
-enrolled_under not_enrolled = none
-enrolled_under (enrolled id) = some id
-enrolled_under (pending id) = none
+enrolled_under not_enrolled = None
+enrolled_under (enrolled id) = Some id
+enrolled_under (pending id) = None
 
 abbrev pub pending_under : Enrolment → Option (List ℕ)
-pending_under not_enrolled = none
-pending_under (enrolled id) = none
-pending_under (pending id) = some id
+pending_under not_enrolled = None
+pending_under (enrolled id) = None
+pending_under (pending id) = Some id
 
 -- "T from its TransportID's ACE, A from its AccessID's ACE when enrolled, W the same when pending"
 abbrev pub given_by_t : Setup → History → ℕ → List Luacd
@@ -107,21 +107,21 @@ place_named w h i l = find (at_lun l) (given_by_t w h i ++ given_by_a w h i)
 
 -- a token as it is issued. By naming a LUN that opens nothing there is none
 abbrev pub token_from : ℕ → ℕ → ℕ → Option Luacd → Option Token
-token_from i l n none = none
-token_from i l n (some p) = some (record { number = n; unit = p.unit; requester = i; lun = head_of l })
+token_from i l n None = None
+token_from i l n (Some p) = Some (record { number = n; unit = p.unit; requester = i; lun = head_of l })
 
 abbrev pub token_issued : Setup → History → ℕ → ℕ → ℕ → Option Token
 token_issued w h i l n = token_from i l n (place_named w h i l)
 
 -- what is left of a token after an ending
 abbrev pub unless_ended : Ending → Option Token → Option Token
-unless_ended e none = none
-unless_ended e (some t) = cond (ends e t) none (some t)
+unless_ended e None = None
+unless_ended e (Some t) = cond (ends e t) None (Some t)
 
 -- the token that a number stands for: as it was last issued, unless it was ended since. "Each issue is a new token, even with a number used before."
 unfoldable pub token : Setup → History → ℕ → Option Token
-token w [] n = none
-token w (switched s ∷ h) n = none
+token w [] n = None
+token w (switched s ∷ h) n = None
 token w (keyed k ∷ h) n = token w h n
 token w (granted k id content x ∷ h) n = token w h n
 token w (enrolling x ∷ h) n = token w h n
@@ -131,8 +131,8 @@ token w (proxying x ∷ h) n = token w h n
 
 -- the tokens that were issued and have not ended, in the order of their issue
 abbrev pub one_more : List Token → Option Token → List Token
-one_more ts none = ts
-one_more ts (some t) = ts ++ (t ∷ [])
+one_more ts None = ts
+one_more ts (Some t) = ts ++ (t ∷ [])
 
 unfoldable pub live_tokens : Setup → History → List Token
 live_tokens w [] = []
@@ -157,15 +157,15 @@ abbrev pub same_proxy_lun : ℕ → ℕ → ℕ → ℕ → Bool
 same_proxy_lun j m i l = eqb j i && eqb m l
 
 unfoldable pub proxy_token : Setup → History → ℕ → ℕ → Option Token
-proxy_token w [] i l = none
-proxy_token w (switched s ∷ h) i l = none
+proxy_token w [] i l = None
+proxy_token w (switched s ∷ h) i l = None
 proxy_token w (keyed k ∷ h) i l = proxy_token w h i l
 proxy_token w (granted k id content x ∷ h) i l = proxy_token w h i l
 proxy_token w (enrolling x ∷ h) i l = proxy_token w h i l
 proxy_token w (tokening (issued j m n) ∷ h) i l = proxy_token w h i l
 proxy_token w (tokening (ended e) ∷ h) i l = unless_ended e (proxy_token w h i l)
 proxy_token w (proxying (assigned j m n) ∷ h) i l = cond (same_proxy_lun j m i l) (token w h n) (proxy_token w h i l)
-proxy_token w (proxying (released j m) ∷ h) i l = cond (same_proxy_lun j m i l) none (proxy_token w h i l)
+proxy_token w (proxying (released j m) ∷ h) i l = cond (same_proxy_lun j m i l) None (proxy_token w h i l)
 
 -- ---- what stands
 abbrev pub Gives : List Luacd → ℕ → ℕ → Type 0
@@ -176,7 +176,7 @@ abbrev pub On : Setup → History → Ground → ℕ → ℕ → ℕ → Type 0
 On w h GroundT i l u = (is_on h ≡ true) × Gives (given_by_t w h i) l u
 On w h GroundA i l u = (is_on h ≡ true) × Gives (given_by_a w h i) l u
 On w h GroundW i l u = (is_on h ≡ true) × Gives (given_by_w w h i) l u
-On w h GroundX i l u = (is_on h ≡ true) × (t : Token) × (proxy_token w h i (lun_of l) ≡ some t) × (t.unit ≡ u)
+On w h GroundX i l u = (is_on h ≡ true) × (t : Token) × (proxy_token w h i (lun_of l) ≡ Some t) × (t.unit ≡ u)
 On w h GroundO i l u = (is_on h ≡ false) × Gives (all_units w.luns) l u
 
 -- a row stands: the initiator and the unit are the setup's, the LUN is 00h, nn and six 00h, and there is a ground. So a row is "four bytes"

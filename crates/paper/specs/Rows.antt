@@ -1,6 +1,6 @@
 -- "Rows of an initiator", clashes, and what a LUN opens.
 use Rattle.std.specs.Prelude.{ℕ, List, [], ◌∷◌, ◌++◌, map, Bool, cond, not, ◌&&◌, ◌||◌, eqb}
-use Rattle.std.proofs.Math.Option.{Option, some, none}
+use Rattle.std.specs.Prelude.{Option, Some, None}
 use Rattle.lists.specs.Lists.{find, keep, any, pairs, gather, below}
 use Rattle.wire.specs.Lun.{lun_of}
 use Rattle.paper.specs.Identifiers.{same_id}
@@ -27,8 +27,8 @@ ace_for aces k id = find (is_for k id) aces
 
 -- an identifier without an ACE holds nothing
 abbrev pub content_in : Option Ace → Content
-content_in none = these []
-content_in (some a) = content_of a
+content_in None = these []
+content_in (Some a) = content_of a
 
 abbrev pub content_for : List Ace → IdType → List ℕ → Content
 content_for aces k id = content_in (ace_for aces k id)
@@ -63,8 +63,8 @@ token_for ts n = find (has_number n) ts
 
 -- "X its proxy LUNs", each to the unit of its token
 abbrev pub proxy_row : ProxyLun → Option Token → List Row
-proxy_row p none = []
-proxy_row p (some t) = record { initiator = p.initiator; lun = p.lun; unit = t.unit; ground = GroundX } ∷ []
+proxy_row p None = []
+proxy_row p (Some t) = record { initiator = p.initiator; lun = p.lun; unit = t.unit; ground = GroundX } ∷ []
 
 abbrev pub owned_by : ℕ → ProxyLun → Bool
 owned_by i p = eqb p.initiator i

@@ -11,7 +11,7 @@ use Rattle.paper.specs.declared.state.Extent.{Extent}
 use Rattle.paper.specs.declared.state.Extent.TheVariants.{Listed, Everything}
 use Rattle.paper.specs.declared.state.Luacd.{Luacd}
 use Rattle.paper.specs.declared.state.Ace.{Ace}
-use Rattle.paper.specs.declared.state.Acl.{Acl}
+use Rattle.lists.specs.declared.Table.{Table}
 use Rattle.paper.specs.declared.state.Token.{Token}
 use Rattle.paper.specs.declared.state.Tokens.{Tokens}
 use Rattle.paper.specs.declared.state.ProxyLun.{ProxyLun}
@@ -19,6 +19,10 @@ use Rattle.paper.specs.declared.state.ProxyLuns.{ProxyLuns}
 use Rattle.paper.specs.declared.state.Initiators.{Initiators}
 use Rattle.paper.specs.declared.state.Units.{Units}
 use Rattle.paper.specs.declared.state.Coordinator.{Coordinator}
+
+-- the ACL: at most 32 ACEs
+abbrev pub Acl : Type 0
+Acl = Table Ace max_aces
 
 -- ---- blanks
 abbrev pub no_luacd : Luacd

@@ -1,6 +1,6 @@
 // The answers: refusals of the house, conditions, and the sense bytes of each.
 ghost use Rattle.std.specs.Prelude.{◌≡◌};
-ghost use Rattle.paper.specs.Answers.{number_of, code_of, sense_of, status_of, number_for, sense_for, values_of, answer_of};
+ghost use Rattle.paper.specs.Answers.{number_of, coded, code_of, sense_of, status_of, number_for, sense_for, values_of, answer_of};
 
 // The house refusals, in the order in which they are tested.
 #[derive(Clone, Copy)]
@@ -53,21 +53,15 @@ pub enum Opened {
     Barred(Refusal),
 }
 
-// The status of an answer; a refusal has none.
-#[derive(Clone, Copy)]
-pub enum Status {
-    Byte(u8),
-    NoStatus,
-}
-
-// The paper's values for an answer: its status, the number of its refusal, 0 if it is none, and its sense.
+// The paper's values for an answer: its status, which a refusal has not, the number of its refusal, 0 if it is none, and its sense.
 #[derive(Clone, Copy)]
 pub struct Values {
-    pub status: Status,
+    pub status: Option<u8>,
     pub number: u8,
     pub sense: [u8; 18],
 }
 
+// Stays: the conversions below are the definitions by name, as docs/PROMISES.md cites them; `u8::from(n)` would not say of what.
 pub fn number_of(n: Refusal) -> u8
     ensures { result ≡ number_of n }
 {
@@ -81,63 +75,30 @@ pub fn number_of(n: Refusal) -> u8
     }
 }
 
+fn coded(code: u8, qualifier: u8) -> Code
+    ensures { result ≡ coded code qualifier }
+{
+    Code { code, qualifier }
+}
+
 // The paper's table of codes.
 pub fn code_of(k: Condition) -> Code
     ensures { result ≡ code_of k }
 {
     match k {
-        Condition::OtherOperation => Code {
-            code: 0x20,
-            qualifier: 0x00,
-        },
-        Condition::InvalidField => Code {
-            code: 0x24,
-            qualifier: 0x00,
-        },
-        Condition::WrongLength => Code {
-            code: 0x1a,
-            qualifier: 0x00,
-        },
-        Condition::WrongKey => Code {
-            code: 0x20,
-            qualifier: 0x03,
-        },
-        Condition::BadList => Code {
-            code: 0x26,
-            qualifier: 0x00,
-        },
-        Condition::PendingEnrolled => Code {
-            code: 0x20,
-            qualifier: 0x01,
-        },
-        Condition::NoAce => Code {
-            code: 0x20,
-            qualifier: 0x02,
-        },
-        Condition::EnrolledElsewhere => Code {
-            code: 0x20,
-            qualifier: 0x08,
-        },
-        Condition::BadLun => Code {
-            code: 0x20,
-            qualifier: 0x09,
-        },
-        Condition::DeadToken => Code {
-            code: 0x20,
-            qualifier: 0x0a,
-        },
-        Condition::Clash => Code {
-            code: 0x20,
-            qualifier: 0x0b,
-        },
-        Condition::NoRoom => Code {
-            code: 0x55,
-            qualifier: 0x05,
-        },
-        Condition::OpensNothing => Code {
-            code: 0x25,
-            qualifier: 0x00,
-        },
+        Condition::OtherOperation => coded(0x20, 0x00),
+        Condition::InvalidField => coded(0x24, 0x00),
+        Condition::WrongLength => coded(0x1a, 0x00),
+        Condition::WrongKey => coded(0x20, 0x03),
+        Condition::BadList => coded(0x26, 0x00),
+        Condition::PendingEnrolled => coded(0x20, 0x01),
+        Condition::NoAce => coded(0x20, 0x02),
+        Condition::EnrolledElsewhere => coded(0x20, 0x08),
+        Condition::BadLun => coded(0x20, 0x09),
+        Condition::DeadToken => coded(0x20, 0x0a),
+        Condition::Clash => coded(0x20, 0x0b),
+        Condition::NoRoom => coded(0x55, 0x05),
+        Condition::OpensNothing => coded(0x25, 0x00),
     }
 }
 
@@ -156,19 +117,18 @@ pub fn sense_for(a: Answer) -> [u8; 18]
     ensures { result ≡ sense_for a }
 {
     match a {
-        Answer::Good => [0; 18],
         Answer::Check(k) => sense_of(k),
-        Answer::Refused(_) => [0; 18],
+        Answer::Good | Answer::Refused(_) => [0; 18],
     }
 }
 
-pub fn status_of(a: Answer) -> Status
+pub fn status_of(a: Answer) -> Option<u8>
     ensures { result ≡ status_of a }
 {
     match a {
-        Answer::Good => Status::Byte(0x00),
-        Answer::Check(_) => Status::Byte(0x02),
-        Answer::Refused(_) => Status::NoStatus,
+        Answer::Good => Some(0x00),
+        Answer::Check(_) => Some(0x02),
+        Answer::Refused(_) => None,
     }
 }
 
@@ -176,8 +136,7 @@ pub fn number_for(a: Answer) -> u8
     ensures { result ≡ number_for a }
 {
     match a {
-        Answer::Good => 0,
-        Answer::Check(_) => 0,
+        Answer::Good | Answer::Check(_) => 0,
         Answer::Refused(n) => number_of(n),
     }
 }

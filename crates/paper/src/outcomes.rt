@@ -36,9 +36,9 @@ pub fn handed_back(c: Coordinator, answer: Answer, delivered: usize) -> Outcome
 {
     Outcome {
         state: c,
-        answer: answer,
+        answer,
         values: answers::values_of(answer),
-        delivered: delivered,
+        delivered,
     }
 }
 
@@ -54,7 +54,7 @@ pub fn opening_of(opened: Opened) -> Opening
     ensures { result ≡ opening_of opened }
 {
     Opening {
-        opened: opened,
+        opened,
         values: answers::values_of(answers::answer_of(opened)),
     }
 }

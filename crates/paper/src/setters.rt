@@ -7,49 +7,40 @@ use crate::state::{Acl, Coordinator, Initiators, ProxyLuns, Tokens, Units};
 pub fn with_switch(c: Coordinator, on: bool, generation: u32, key: u64) -> Coordinator
     ensures { result ≡ with_switch c on generation key }
 {
-    let mut next = c;
-    next.enabled = on;
-    next.generation = generation;
-    next.key = key;
-    next
+    Coordinator {
+        enabled: on,
+        generation,
+        key,
+        ..c
+    }
 }
 
 pub fn with_initiators(c: Coordinator, t: Initiators) -> Coordinator
     ensures { result ≡ with_initiators c t }
 {
-    let mut next = c;
-    next.initiators = t;
-    next
+    Coordinator { initiators: t, ..c }
 }
 
 pub fn with_units(c: Coordinator, t: Units) -> Coordinator
     ensures { result ≡ with_units c t }
 {
-    let mut next = c;
-    next.units = t;
-    next
+    Coordinator { units: t, ..c }
 }
 
 pub fn with_acl(c: Coordinator, t: Acl) -> Coordinator
     ensures { result ≡ with_acl c t }
 {
-    let mut next = c;
-    next.acl = t;
-    next
+    Coordinator { acl: t, ..c }
 }
 
 pub fn with_tokens(c: Coordinator, t: Tokens) -> Coordinator
     ensures { result ≡ with_token_table c t }
 {
-    let mut next = c;
-    next.tokens = t;
-    next
+    Coordinator { tokens: t, ..c }
 }
 
 pub fn with_proxies(c: Coordinator, t: ProxyLuns) -> Coordinator
     ensures { result ≡ with_proxy_table c t }
 {
-    let mut next = c;
-    next.proxies = t;
-    next
+    Coordinator { proxies: t, ..c }
 }

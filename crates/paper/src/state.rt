@@ -1,8 +1,11 @@
 // The state: one struct a table, each with its count and its array.
 // A LUN is kept as its first two bytes, as one number: the other six are zero in every LUN of the form that document 01 asks for.
-ghost use Rattle.std.specs.Prelude.{◌≡◌, []};
+ghost use Rattle.std.specs.Prelude.{◌≡◌, [], ◌≤◌, take, length};
 ghost use Rattle.paper.specs.Tables.{no_luacd, no_ace, no_token, no_proxy, acl_of, token_table, proxy_table, initiator_table, unit_table};
+ghost use Rattle.paper.specs.Identifiers.{type_byte};
 ghost use Rattle.paper.specs.Fresh.{nothing, fresh};
+
+use lists::{Table, first};
 
 // The bytes of an identifier, and of an enrolment: its stage and the AccessID; and of the tables that hold one for each initiator.
 pub const ID_SIZE: usize = 24;
@@ -14,14 +17,14 @@ pub const IDS_SIZE: usize = 16 * ID_SIZE;
 pub const ENROLMENTS_SIZE: usize = 16 * ENROLMENT_SIZE;
 
 // What an identifier is.
-#[derive(Clone, Copy)]
+#[derive(Clone, Copy, PartialEq, Eq)]
 pub enum IdType {
     AccessId,
     TransportId,
 }
 
 // What an ACE holds: a list, or everything.
-#[derive(Clone, Copy)]
+#[derive(Clone, Copy, PartialEq, Eq)]
 pub enum Extent {
     Listed,
     Everything,
@@ -43,6 +46,7 @@ pub struct Descriptor {
     pub default: u64,
 }
 
+// Stays: document 01 asks for the enums and, beside them, the array of LUACDs, of which the first are in use.
 #[derive(Clone, Copy)]
 pub struct Ace {
     pub kind: IdType,
@@ -52,11 +56,8 @@ pub struct Ace {
     pub luacds: [Luacd; 16],
 }
 
-#[derive(Clone, Copy)]
-pub struct Acl {
-    pub count: usize,
-    pub items: [Ace; 32],
-}
+// The ACL: at most 32 ACEs.
+pub type Acl = Table<Ace, 32>;
 
 // A live token: its number, the unit that it opens, who got it and by naming which LUN.
 #[repr(C)]
@@ -68,6 +69,7 @@ pub struct Token {
     pub lun: u16,
 }
 
+// Stays: the C interface takes no struct with type parameters, so that this is no `Table`.
 #[repr(C)]
 #[derive(Clone, Copy)]
 pub struct Tokens {
@@ -84,6 +86,7 @@ pub struct ProxyLun {
     pub token: u64,
 }
 
+// Stays: the C interface takes no struct with type parameters, so that this is no `Table`.
 #[repr(C)]
 #[derive(Clone, Copy)]
 pub struct ProxyLuns {
@@ -91,6 +94,7 @@ pub struct ProxyLuns {
     pub items: [ProxyLun; 32],
 }
 
+// Stays: bytes side by side, since they are the layout in C, and initiators' numbers index both.
 // The initiators: their TransportIDs one after the other, and their enrolments, each the stage and the AccessID.
 #[repr(C)]
 #[derive(Clone, Copy)]
@@ -101,6 +105,7 @@ pub struct Initiators {
 }
 
 // The units: their default LUNs.
+// Stays: the C interface takes no struct with type parameters, so that this is no `Table`.
 #[repr(C)]
 #[derive(Clone, Copy)]
 pub struct Units {
@@ -121,7 +126,7 @@ pub struct Coordinator {
 }
 
 // The ground of a row, by the paper's letter.
-#[derive(Clone, Copy)]
+#[derive(Clone, Copy, PartialEq, Eq)]
 pub enum Ground {
     GroundA,
     GroundO,
@@ -136,6 +141,76 @@ pub struct Row {
     pub lun: u16,
     pub unit: u8,
     pub ground: Ground,
+}
+
+impl Ace {
+    // The LUACDs in use.
+    pub fn in_use(&self) -> &[Luacd]
+        ensures in_use { result.now ≡ take self.now.count self.now.luacds }
+        ensures few { length result.now ≤ 16 }
+    {
+        first(&self.luacds, self.count)
+    }
+}
+
+impl Tokens {
+    // The live tokens; a count past the size is read as the size.
+    pub fn in_use(&self) -> &[Token]
+        ensures in_use { result.now ≡ take self.now.count self.now.items }
+        ensures few { length result.now ≤ 32 }
+    {
+        first(&self.items, self.count)
+    }
+}
+
+impl ProxyLuns {
+    // The proxy LUNs that stand.
+    pub fn in_use(&self) -> &[ProxyLun]
+        ensures in_use { result.now ≡ take self.now.count self.now.items }
+        ensures few { length result.now ≤ 32 }
+    {
+        first(&self.items, self.count)
+    }
+}
+
+impl Units {
+    // The default LUNs, by unit number.
+    pub fn in_use(&self) -> &[u16]
+        ensures in_use { result.now ≡ take self.now.count self.now.luns }
+        ensures few { length result.now ≤ 32 }
+    {
+        first(&self.luns, self.count)
+    }
+}
+
+// The byte of an identifier's type.
+impl From<IdType> for u8 {
+    ghost from_gives = { λ k b. b ≡ type_byte k };
+
+    fn from(k: IdType) -> u8 {
+        match k {
+            IdType::AccessId => 0,
+            IdType::TransportId => 1,
+        }
+    }
+}
+
+impl From<Table<Token, 32>> for Tokens {
+    ghost from_gives = { λ t r. r ≡ record { count = t.count; items = t.items } };
+
+    fn from(t: Table<Token, 32>) -> Tokens {
+        let Table { count, items } = t;
+        Tokens { count, items }
+    }
+}
+
+impl From<Table<ProxyLun, 32>> for ProxyLuns {
+    ghost from_gives = { λ t r. r ≡ record { count = t.count; items = t.items } };
+
+    fn from(t: Table<ProxyLun, 32>) -> ProxyLuns {
+        let Table { count, items } = t;
+        ProxyLuns { count, items }
+    }
 }
 
 pub fn no_luacd() -> Luacd
@@ -159,7 +234,7 @@ pub fn no_ace() -> Ace
 pub fn no_acl() -> Acl
     ensures { result ≡ acl_of [] }
 {
-    Acl {
+    Table {
         count: 0,
         items: [no_ace(); 32],
     }

@@ -7,6 +7,7 @@ use native.Mathlib.Omega.{arith}
 use lib.ListN.{length, take, set, length-append}
 use lib.Seq.{take_all, set_comm}
 use lib.Dec.{ltb}
+use mir.Val.{bool_byte}
 use borrow.Author.Tests.{lt-ltb, le-ltb}
 use Rattle.lists.specs.Lists.{gather}
 use Rattle.lists.specs.Bytes.{be_bytes, deliver}
@@ -82,3 +83,8 @@ unfolding report_bytes
 report_whole c m {limit} {n} {e} {b₀} {b₁} many size w =
     let v : Wrote limit 0 (report_bytes c) b₀ e b₁ = rw (many, append_assoc) at w in
     delivered v ∙ rw (take_cap (report_bytes c) limit m (4 + n) (omega (arith, length_header c)) size)
+
+-- a switch as a byte
+pub switch_byte : (on : Bool) → bool_byte on ≡ cond on 0x01 0x00
+switch_byte true = refl
+switch_byte false = refl

@@ -1,6 +1,6 @@
 -- The pages of REPORT ACL from their parts.
 use Prim.Native.Nat.{ℕ, ◌+◌, ◌*◌, ◌<◌}
-use mathlib.Core.Path.{◌≡◌, refl, sym, subst}
+use mathlib.Core.Path.{◌≡◌, sym, subst}
 use mathlib.Core.List.{List, [], ◌∷◌, ◌++◌}
 use native.Mathlib.Omega.{arith}
 use lib.ListN.{length, take}
@@ -16,12 +16,9 @@ use Rattle.paper.specs.declared.state.Ace.{Ace}
 use Rattle.paper.specs.declared.state.Token.{Token}
 
 module _ (luns : List ℕ) (a : Ace) {limit at e : ℕ} {old new : List ℕ} where
-  pub listed_page : a.extent ≡ Listed → length (take a.count a.luacds) ≡ a.count → Wrote limit at (head_bytes 0x00 (28 + 20 * a.count) ++ (identifier_bytes id_size a ++ gather (luacd_bytes luns) (sort luacd_before (take a.count a.luacds)))) old e new → Wrote limit at (ace_bytes luns a) old e new
+  pub listed_page : {n : ℕ} → a.extent ≡ Listed → n ≡ 28 + 20 * length (take a.count a.luacds) → Wrote limit at (head_bytes 0x00 n ++ (identifier_bytes id_size a ++ gather (luacd_bytes luns) (sort luacd_before (take a.count a.luacds)))) old e new → Wrote limit at (ace_bytes luns a) old e new
   unfolding ace_bytes
-  listed_page x h w =
-      let ls = take a.count a.luacds in
-      let v = subst (λ n. Wrote limit at (head_bytes 0x00 (28 + 20 * n) ++ (identifier_bytes id_size a ++ gather (luacd_bytes luns) (sort luacd_before ls))) old e new) (sym h) w in
-      subst (λ k. Wrote limit at (granted_bytes id_size luns a (content_by k ls)) old e new) (sym x) v
+  listed_page x h w = subst (λ k. Wrote limit at (granted_bytes id_size luns a (content_by k (take a.count a.luacds))) old e new) (sym x) (rw h at w)
 
   pub everything_page : a.extent ≡ Everything → Wrote limit at (head_bytes 0x01 28 ++ identifier_bytes id_size a) old e new → Wrote limit at (ace_bytes luns a) old e new
   unfolding ace_bytes
@@ -29,16 +26,12 @@ module _ (luns : List ℕ) (a : Ace) {limit at e : ℕ} {old new : List ℕ} whe
       subst (λ k. Wrote limit at (granted_bytes id_size luns a (content_by k (take a.count a.luacds))) old e new) (sym x) w
 
 -- the proxy page: left out if empty
-pub no_proxy_page : (luns : List ℕ) (items : List Token) {n : ℕ} (limit at : ℕ) (buf : List ℕ) → n ≡ 0 → Wrote limit at (proxy_page luns (take n items)) buf at buf
+pub no_proxy_page : (luns : List ℕ) (ts : List Token) (limit at : ℕ) (buf : List ℕ) → length ts ≡ 0 → Wrote limit at (proxy_page luns ts) buf at buf
 unfolding proxy_page
-no_proxy_page luns items limit at buf h = rw h (wrote_none limit at buf)
+no_proxy_page luns [] limit at buf h = wrote_none limit at buf
+no_proxy_page luns (t ∷ ts) limit at buf h = absurd (omega (arith, h))
 
-proxy_some : (luns : List ℕ) (ts : List Token) → 0 < length ts → proxy_page luns ts ≡ head_bytes 0x02 (20 * length ts) ++ gather (token_bytes luns) (sort token_before ts)
+pub some_proxy_page : (luns : List ℕ) (ts : List Token) {limit at e : ℕ} {old new : List ℕ} → 0 < length ts → Wrote limit at (head_bytes 0x02 (20 * length ts) ++ gather (token_bytes luns) (sort token_before ts)) old e new → Wrote limit at (proxy_page luns ts) old e new
 unfolding proxy_page
-proxy_some luns [] h = absurd (omega arith)
-proxy_some luns (t ∷ ts) h = refl
-
-pub proxy_page_lem : (luns : List ℕ) (items : List Token) {n limit at e : ℕ} {old new : List ℕ} → 0 < n → length (take n items) ≡ n → Wrote limit at (head_bytes 0x02 (20 * n) ++ gather (token_bytes luns) (sort token_before (take n items))) old e new → Wrote limit at (proxy_page luns (take n items)) old e new
-proxy_page_lem luns items {n} {limit} {at} {e} {old} {new} h k w =
-    rw (proxy_some luns (take n items) (omega arith))
-    (subst (λ m. Wrote limit at (head_bytes 0x02 (20 * m) ++ gather (token_bytes luns) (sort token_before (take n items))) old e new) (sym k) w)
+some_proxy_page luns [] h w = absurd (omega arith)
+some_proxy_page luns (t ∷ ts) h w = w

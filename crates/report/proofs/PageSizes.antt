@@ -1,58 +1,52 @@
 -- How long the pages of REPORT ACL are.
-use Prim.Native.Nat.{ℕ, zero, suc, ◌+◌, ◌*◌, ◌≤◌, ◌<◌}
-use mathlib.Core.Path.{◌≡◌, refl, ap, ◌∙◌}
-use mathlib.Core.Bool.{true}
-use mathlib.Core.List.{List}
-use native.Mathlib.Omega.{arith}
-use borrow.Author.Tests.{leb-true}
-use lib.ListN.{length, take, length-append, length-take}
-use lib.Seq.{length-take-le}
-use Rattle.lists.specs.Lists.{all, gather}
-use Rattle.lists.specs.Order.{sort}
+use Rattle.std.proofs.Common.{ℕ, zero, suc, ◌+◌, ◌*◌, ◌≤◌, ◌<◌, ◌≡◌, refl, ap, true, false, List, [], length, take, drop, get_or, length-append, drop-cons, add-one, arith}
+use Rattle.std.specs.Prelude.{◌==◌}
+use borrow.Author.Tests.{eqb-true, eqb-false}
+use lib.ListN.{drop_of_length-le}
+use Rattle.lists.specs.Lists.{gather}
 use Rattle.lists.proofs.Bytes.{bytes_length}
-use Rattle.lists.proofs.Members.{all_in}
-use Rattle.lists.proofs.Sums.{gather_most, gather_sort}
-use Rattle.paper.specs.Tables.{content_by, units_of, aces_of, tokens_of}
-use Rattle.paper.specs.Standing.{few_luacds, listed_in, luacds_of, standing}
-use Rattle.paper.specs.Reports.{ace_before, ace_bytes, proxy_page, report_pages, report_bytes}
+use Rattle.paper.specs.Tables.{units_of, aces_of, tokens_of}
+use Rattle.paper.specs.Standing.{luacds_of, standing}
+use Rattle.paper.specs.Reports.{ace_bytes, proxy_page, report_pages, report_bytes}
 use Rattle.paper.proofs.Stood.{Counted, stood, counted}
-use Rattle.paper.proofs.Lengths.{length_ace, listed_few, length_proxy, proxy_size, length_report, largest_report}
-use Rattle.paper.specs.declared.state.Extent.{Extent}
+use Rattle.paper.proofs.Lengths.{length_ace, length_proxy, proxy_size, length_report, largest_report}
 use Rattle.paper.specs.declared.state.Extent.TheVariants.{Listed, Everything}
-use Rattle.paper.specs.declared.state.Luacd.{Luacd}
 use Rattle.paper.specs.declared.state.Ace.{Ace}
 use Rattle.paper.specs.declared.state.Token.{Token}
 use Rattle.paper.specs.declared.state.Coordinator.{Coordinator}
 
 -- ---- how many LUACDs a page has
-abbrev listed_by : Extent → Ace → List Luacd
-listed_by x a = listed_in (content_by x (take a.count a.luacds))
+pub listed_size : (a : Ace) → a.extent ≡ Listed → luacds_of a ≡ take a.count a.luacds
+listed_size a e = rw e
 
-pub listed_size : (a : Ace) → a.extent ≡ Listed → a.count ≤ length a.luacds → length (luacds_of a) ≡ a.count
-listed_size a e h = ap (λ x. length (listed_by x a)) e ∙ length-take-le a.count a.luacds h
+pub everything_size : (a : Ace) → a.extent ≡ Everything → luacds_of a ≡ []
+everything_size a e = rw e
 
-pub everything_size : (a : Ace) → a.extent ≡ Everything → length (luacds_of a) ≡ 0
-everything_size a e = ap (λ x. length (listed_by x a)) e
+-- the pages counted, and those of the ACEs that are left, are together all pages
+module _ (luns : List ℕ) (aces : List Ace) (total : ℕ) {k : ℕ} where
+  pub counted_more : (a : Ace) {size : ℕ} → k < length aces → size ≡ 32 + 20 * length (luacds_of (get_or aces k a)) → total + length (gather (ace_bytes luns) (drop k aces)) ≡ length (gather (ace_bytes luns) aces) → total + size + length (gather (ace_bytes luns) (drop (k + 1) aces)) ≡ length (gather (ace_bytes luns) aces)
+  counted_more a h is s =
+      let next = rw (drop-cons aces k a h, length-append) at s in
+      rw add-one (omega (arith, next, is, length_ace luns (get_or aces k a)))
 
--- ---- 32 ACEs that list 16 LUACDs each
-pub pages_few : (luns : List ℕ) (items : List Ace) (n : ℕ) → n ≤ 32 → all few_luacds (take n items) ≡ true → length (gather (ace_bytes luns) (sort ace_before (take n items))) ≤ 11264
-pages_few luns items n h few =
-    let most =
-    gather_most (ace_bytes luns) 352 (take n items) (λ a m. omega (arith, length_ace luns a, listed_few a.extent a.count a.luacds (leb-true _ _ (all_in few_luacds few m)))) in
-    omega (arith, length-take n items, most, gather_sort (ace_bytes luns) ace_before (take n items))
+  pub counted_all : length aces ≤ k → total + length (gather (ace_bytes luns) (drop k aces)) ≡ length (gather (ace_bytes luns) aces) → total ≡ length (gather (ace_bytes luns) aces)
+  counted_all h s = let none = rw (drop_of_length-le aces {i = k} h) at s in omega (arith, none)
 
 -- ---- the proxy page
 proxy_some : (n : ℕ) → 0 < n → proxy_size n ≡ 4 + 20 * n
 proxy_some zero h = absurd (omega arith)
 proxy_some (suc n) h = refl
 
-pub no_proxy_lem : (luns : List ℕ) (items : List Token) {n : ℕ} → n ≡ 0 → 0 ≡ length (proxy_page luns (take n items))
-unfolding proxy_page
-no_proxy_lem luns items e = rw e
+some_there : (n : ℕ) → (n == 0) ≡ false → 0 < n
+some_there n k =
+    let other = eqb-false n 0 k in omega (arith, other)
 
-pub some_proxy : (luns : List ℕ) (items : List Token) (n : ℕ) → n ≤ length items → 0 < n → 4 + 20 * n ≡ length (proxy_page luns (take n items))
-some_proxy luns items n h k =
-    omega (arith, length_proxy luns (take n items), ap proxy_size (length-take-le n items h), proxy_some n k)
+pub proxy_length : (luns : List ℕ) (ts : List Token) → (length ts == 0) ≡ false → 4 + 20 * length ts ≡ length (proxy_page luns ts)
+proxy_length luns ts k = omega (arith, length_proxy luns ts, proxy_some (length ts) (some_there (length ts) k))
+
+pub no_proxy_length : (luns : List ℕ) (ts : List Token) → (length ts == 0) ≡ true → 0 ≡ length (proxy_page luns ts)
+no_proxy_length luns ts k =
+    let none : length ts ≡ 0 = eqb-true (length ts) 0 k in omega (arith, length_proxy luns ts, ap proxy_size none)
 
 -- ---- the report has eight bytes before its pages
 pub length_header : (c : Coordinator) → length (report_bytes c) ≡ 8 + length (report_pages c)

@@ -1,6 +1,7 @@
 // The two reports: REPORT ACL and the reach list, written into the lent buffer.
 #![tactic(auto)]
 
+pub mod each;
 pub mod granted;
 pub mod identified;
 pub mod ordering;

@@ -11,7 +11,6 @@ use paper::answers::{Answer, Refusal};
 use paper::outcomes;
 use paper::outcomes::Outcome;
 use paper::state::Coordinator;
-use tables::lookups;
 
 // "length of what follows (4), DLgeneration (4)"
 fn put_header(buf: &mut [u8], limit: usize, follows: u32, generation: u32) -> usize
@@ -22,18 +21,13 @@ fn put_header(buf: &mut [u8], limit: usize, follows: u32, generation: u32) -> us
 }
 
 // The ACEs' pages, and "proxy page last".
-fn put_pages(c: Coordinator, buf: &mut [u8], at: usize, limit: usize) -> usize
-    requires { (standing c ≡ true) × (at ≤ 8) }
-    ensures { Wrote limit at (report_pages c) buf.old result buf.new }
+fn put_pages(c: &Coordinator, buf: &mut [u8], at: usize, limit: usize) -> usize
+    requires { (standing c.now ≡ true) × (at ≤ 8) }
+    ensures { Wrote limit at (report_pages c.now) buf.old result buf.new }
 {
-    let units = c.units;
-    let count = units.count;
-    let luns = units.luns;
-    let acl = c.acl;
-    let tokens = c.tokens;
-    let used = &luns[..count];
-    let a = identified::put_aces(buf, at, limit, used, acl);
-    tokened::put_proxy_page(buf, a, limit, used, tokens)
+    let luns = c.units.in_use();
+    let a = identified::put_aces(buf, at, limit, luns, &c.acl);
+    tokened::put_proxy_page(buf, a, limit, luns, &c.tokens)
 }
 
 // REPORT ACL past its key: as much of the report as was asked for, in the lent buffer if that has room. "Inner lengths do not shrink": the header has the length of all pages, whatever is delivered of them.
@@ -42,12 +36,12 @@ pub fn report(c: Coordinator, allocation: usize, reply: &mut [u8]) -> Outcome
     ensures outcome { result ≡ outcome_of c (in_room (length reply.old) (good [] (take allocation (report_bytes c)))) }
     ensures bytes { reply.new ≡ buffer_after (in_room (length reply.old) (good [] (take allocation (report_bytes c)))) reply.old }
 {
-    let follows = 4 + sized::pages_size(c);
-    let limit = lookups::capped(allocation, 4 + follows);
+    let follows = 4 + sized::pages_size(&c);
+    let limit = allocation.min(4 + follows);
     if reply.len() < limit {
         return outcomes::handed_back(c, Answer::Refused(Refusal::ShortBuffer), 0);
     }
     let at = put_header(reply, limit, follows as u32, c.generation);
-    put_pages(c, reply, at, limit);
+    put_pages(&c, reply, at, limit);
     outcomes::handed_back(c, Answer::Good, limit)
 }

@@ -8,7 +8,7 @@ use Rattle.lists.proofs.Tables.{pad_more}
 use Rattle.paper.specs.declared.state.Row.{Row}
 use Rattle.rows.specs.Table.{no_row, row_table}
 use Rattle.rows.specs.Append.{pushed_row, appended, Joined}
-use Rattle.rows.specs.declared.table.Rows.{Rows}
+use Rattle.rows.specs.Table.{Rows}
 
 pub appended_append : (rows : Rows) (xs ys : List Row) → appended rows (xs ++ ys) ≡ appended (appended rows xs) ys
 unfolding appended

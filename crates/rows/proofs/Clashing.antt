@@ -10,7 +10,7 @@ use Rattle.lists.proofs.Tables.{take_pad}
 use Rattle.paper.specs.Rows.{clashing, clash_in}
 use Rattle.paper.specs.declared.state.Row.{Row}
 use Rattle.rows.specs.Table.{no_row, row_table}
-use Rattle.rows.specs.declared.table.Rows.{Rows}
+use Rattle.rows.specs.Table.{Rows}
 
 module _ (r q : Row) where
   pub one_lun : r.lun ≡ q.lun → clashing r q ≡ not (eqb r.unit q.unit)
@@ -31,5 +31,8 @@ module _ (r q : Row) where
   one_unit e f = rw (ne_eqb _ _ e, eq-eqb _ _ f) (and-true (is_taw r.ground && is_taw q.ground))
 
 -- the rows in use of a table are those that it was built from
-pub clash_built : (l : List Row) {rows : Rows} {r : Bool} → rows ≡ row_table l → r ≡ clash_in (take rows.count rows.items) → r ≡ clash_in l
-clash_built l e h = h ∙ ap (λ (t : Rows). clash_in (take t.count t.items)) e ∙ ap clash_in (take_pad no_row 96 l)
+pub rows_built : (l : List Row) {rows : Rows} {us : List Row} → rows ≡ row_table l → us ≡ take rows.count rows.items → us ≡ l
+rows_built l e h = h ∙ ap (λ (t : Rows). take t.count t.items) e ∙ take_pad no_row 96 l
+
+pub clash_built : (l : List Row) {rows : Rows} {us : List Row} {r : Bool} → rows ≡ row_table l → us ≡ take rows.count rows.items → r ≡ clash_in us → r ≡ clash_in l
+clash_built l e h q = q ∙ ap clash_in (rows_built l e h)

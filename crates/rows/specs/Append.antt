@@ -1,7 +1,7 @@
 -- Rows appended to a table, one after the other.
 use Rattle.std.specs.Prelude.{ℕ, ◌+◌, ◌≤◌, List, [], ◌∷◌, ◌≡◌, set}
 use Rattle.paper.specs.declared.state.Row.{Row}
-use Rattle.rows.specs.declared.table.Rows.{Rows}
+use Rattle.rows.specs.Table.{Rows}
 
 abbrev pub pushed_row : Rows → Row → Rows
 pushed_row rows r = record { count = rows.count + 1; items = set rows.items rows.count r }

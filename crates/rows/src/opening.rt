@@ -1,143 +1,83 @@
 // What a LUN has among the rows of an initiator: one search, on the grounds that the question is about.
-ghost use Rattle.std.specs.Prelude.{◌≡◌, ◌&&◌, take};
+ghost use Rattle.std.specs.Prelude.{◌≡◌};
 ghost use Rattle.lists.specs.Lists.{any};
 ghost use Rattle.paper.specs.Grounds.{opens_by, is_ta, is_w};
 ghost use Rattle.paper.specs.Rows.{has_lun, row_with, pending_has};
 ghost use Rattle.paper.specs.Outcomes.{opens};
-ghost use Rattle.rows.specs.Table.{is_found, found_row};
-ghost use Rattle.rows.specs.Asked.{grounds_of};
 
-use crate::table::{RowFound, Rows};
 use paper::answers::{Condition, Opened};
 use paper::state::{Ground, Row};
-use tables::lookups::capped;
-
-// The grounds that a question on a LUN is about.
-#[derive(Clone, Copy)]
-pub enum Grounds {
-    Opening,
-    TransportOrAccess,
-    PendingOnly,
-    AnyGround,
-}
 
 // "a T, A, X or O row"
 fn opens_by(g: Ground) -> bool
     ensures { result ≡ opens_by g }
 {
-    match g {
-        Ground::GroundA => true,
-        Ground::GroundO => true,
-        Ground::GroundT => true,
-        Ground::GroundW => false,
-        Ground::GroundX => true,
-    }
+    !is_w(g)
 }
 
 fn is_ta(g: Ground) -> bool
     ensures { result ≡ is_ta g }
 {
-    match g {
-        Ground::GroundA => true,
-        Ground::GroundO => false,
-        Ground::GroundT => true,
-        Ground::GroundW => false,
-        Ground::GroundX => false,
-    }
+    matches!(g, Ground::GroundA | Ground::GroundT)
 }
 
 fn is_w(g: Ground) -> bool
     ensures { result ≡ is_w g }
 {
-    match g {
-        Ground::GroundA => false,
-        Ground::GroundO => false,
-        Ground::GroundT => false,
-        Ground::GroundW => true,
-        Ground::GroundX => false,
-    }
+    matches!(g, Ground::GroundW)
 }
 
-// Whether a question is about a ground.
-fn is_on(on: Grounds, g: Ground) -> bool
-    ensures { result ≡ grounds_of on g }
+// All eight bytes of a LUN are compared.
+fn row_has(x: &Row, l: u64) -> bool
+    ensures { result ≡ has_lun l x.now }
 {
-    match on {
-        Grounds::Opening => opens_by(g),
-        Grounds::TransportOrAccess => is_ta(g),
-        Grounds::PendingOnly => is_w(g),
-        Grounds::AnyGround => true,
-    }
+    wire::lun_of(x.lun) == l
 }
 
-// Whether a row answers a question on a LUN, of which all eight bytes are compared.
-fn answers(x: Row, on: Grounds, l: u64) -> bool
-    ensures { result ≡ grounds_of on x.ground && has_lun l x }
+// The row by which a LUN opens.
+#[tactic(auto, unfolding(paper::specs::Rows::row_with))]
+fn opening_row(rows: &[Row], l: u64) -> Option<Row>
+    ensures { result ≡ row_with opens_by l rows.now }
 {
-    let ground = x.ground;
-    if is_on(on, ground) {
-        return wire::lun_of(x.lun) == l;
-    }
-    false
-}
-
-// The first row that has a LUN on some grounds.
-pub fn row_with(rows: Rows, on: Grounds, l: u64) -> RowFound
-    ensures { result ≡ found_row (row_with (grounds_of on) l (take rows.count rows.items)) }
-{
-    let given = rows.count;
-    let count = capped(given, 96);
-    let items = rows.items;
-    let mut i = 0;
-    while i < count {
-        let x = items[i];
-        if answers(x, on, l) {
-            return RowFound::Found(x);
-        }
-        i += 1;
-    }
-    RowFound::NotFound
-}
-
-fn is_found(f: RowFound) -> bool
-    ensures { result ≡ is_found f }
-{
-    match f {
-        RowFound::Found(_) => true,
-        RowFound::NotFound => false,
-    }
+    rows.iter()
+        .copied()
+        .find(|x| opens_by(x.ground) && row_has(x, l))
 }
 
 // The row by which a token may be requested: "the LUN must open by a T or A row".
-pub fn request_row(rows: Rows, l: u64) -> RowFound
-    ensures { result ≡ found_row (row_with is_ta l (take rows.count rows.items)) }
+#[tactic(auto, unfolding(paper::specs::Rows::row_with))]
+pub fn request_row(rows: &[Row], l: u64) -> Option<Row>
+    ensures { result ≡ row_with is_ta l rows.now }
 {
-    row_with(rows, Grounds::TransportOrAccess, l)
+    rows.iter()
+        .copied()
+        .find(|x| is_ta(x.ground) && row_has(x, l))
 }
 
 // "if W has it"
-pub fn pending_has(rows: Rows, l: u64) -> bool
-    ensures { result ≡ pending_has l (take rows.count rows.items) }
+#[tactic(auto, unfolding(paper::specs::Rows::pending_has))]
+pub fn pending_has(rows: &[Row], l: u64) -> bool
+    ensures { result ≡ pending_has l rows.now }
 {
-    is_found(row_with(rows, Grounds::PendingOnly, l))
+    rows.iter().any(|x| is_w(x.ground) && row_has(x, l))
 }
 
 // Whether any row has a LUN, on whatever ground.
-pub fn has_lun(rows: Rows, l: u64) -> bool
-    ensures { result ≡ any (has_lun l) (take rows.count rows.items) }
+pub fn has_lun(rows: &[Row], l: u64) -> bool
+    ensures { result ≡ any (has_lun l) rows.now }
 {
-    is_found(row_with(rows, Grounds::AnyGround, l))
+    rows.iter().any(|x| row_has(x, l))
 }
 
 // "the unit of a T, A, X or O row with that LUN; else 20h/01h if W has it; else 25h/00h"
-pub fn opened(rows: Rows, l: u64) -> Opened
-    ensures { result ≡ opens l (take rows.count rows.items) }
+pub fn opened(rows: &[Row], l: u64) -> Opened
+    ensures { result ≡ opens l rows.now }
 {
-    let RowFound::Found(x) = row_with(rows, Grounds::Opening, l) else {
-        if pending_has(rows, l) {
-            return Opened::Closed(Condition::PendingEnrolled);
-        }
-        return Opened::Closed(Condition::OpensNothing);
-    };
-    Opened::Opens(x.unit)
+    if let Some(x) = opening_row(rows, l) {
+        return Opened::Opens(x.unit);
+    }
+    if pending_has(rows, l) {
+        return Opened::Closed(Condition::PendingEnrolled);
+    }
+    Opened::Closed(Condition::OpensNothing)
 }

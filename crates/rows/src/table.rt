@@ -2,19 +2,10 @@
 ghost use Rattle.std.specs.Prelude.{◌≡◌, []};
 ghost use Rattle.rows.specs.Table.{no_row, row_table};
 
+use lists::Table;
 use paper::state::{Ground, Row};
 
-#[derive(Clone, Copy)]
-pub struct Rows {
-    pub count: usize,
-    pub items: [Row; 96],
-}
-
-#[derive(Clone, Copy)]
-pub enum RowFound {
-    Found(Row),
-    NotFound,
-}
+pub type Rows = Table<Row, 96>;
 
 pub fn no_row() -> Row
     ensures { result ≡ no_row }
@@ -30,7 +21,7 @@ pub fn no_row() -> Row
 pub fn no_rows() -> Rows
     ensures { result ≡ row_table [] }
 {
-    Rows {
+    Table {
         count: 0,
         items: [no_row(); 96],
     }

@@ -50,7 +50,6 @@ named_out c =
 
 -- ---- in and out
 aces_out_in : (l : List ShelfAce) → all well_ace l ≡ true → map ace_out (map ace_in l) ≡ l
-unfolding all
 aces_out_in [] h = refl
 aces_out_in (a ∷ l) h =
     let both = and_true (well_ace a) (all well_ace l) h in

@@ -1,5 +1,6 @@
 -- What crosses to C and back: the coordinator with a byte where it has an enum or a bool. A state in which such a byte is none of the two that name something is no coordinator: it "breaks a standing rule" (refusal 2).
-use Rattle.std.specs.Prelude.{ℕ, List, map, Bool, true, false, cond, ◌&&◌, eqb, leb}
+use Rattle.std.specs.Prelude.{ℕ, List, map, Bool, true, false, cond, ◌&&◌, eqb, leb, Option}
+use Rattle.std.specs.Option.{unwrap_or}
 use Rattle.lists.specs.Lists.{all}
 use Rattle.paper.specs.Answers.{values_of}
 use Rattle.paper.specs.Outcomes.{Decision, outcome_of, buffer_after, routed, opening_of}
@@ -9,8 +10,6 @@ use Rattle.paper.specs.declared.state.Extent.{Extent}
 use Rattle.paper.specs.declared.state.Extent.TheVariants.{Listed, Everything}
 use Rattle.paper.specs.declared.state.Ace.{Ace}
 use Rattle.paper.specs.declared.state.Coordinator.{Coordinator}
-use Rattle.paper.specs.declared.answers.Status.{Status}
-use Rattle.paper.specs.declared.answers.Status.TheVariants.{Byte, NoStatus}
 use Rattle.paper.specs.declared.answers.Values.{Values}
 use Rattle.paper.specs.declared.answers.Answer.TheVariants.{Refused}
 use Rattle.paper.specs.declared.answers.Refusal.TheVariants.{BadState}
@@ -96,9 +95,8 @@ shelf_of c =
     }
 
 -- a refusal has no status: FFh, which SAM does not use
-abbrev pub status_byte : Status → ℕ
-status_byte (Byte b) = b
-status_byte NoStatus = 0xFF
+abbrev pub status_byte : Option ℕ → ℕ
+status_byte s = unwrap_or s 0xFF
 
 abbrev pub values_out : Values → ShelfValues
 values_out v = record { status = status_byte v.status; number = v.number; sense = v.sense }

@@ -1,128 +1,88 @@
 // From what C hands in to the coordinator, and back.
 ghost use Rattle.std.specs.Prelude.{◌≡◌, map};
-ghost use Rattle.shelf.specs.Crossing.{kind_of, extent_of, enabled_of, ace_in, well_ace, well_named, coordinator_in, kind_byte, extent_byte, enabled_byte, ace_out, shelf_of, status_byte, values_out, outcome_out, started_out, unit_opened, opening_out, refused_shelf};
+ghost use Rattle.lists.specs.Lists.{all};
+ghost use Rattle.shelf.specs.Crossing.{one_of, ace_in, well_ace, well_named, coordinator_in, extent_byte, ace_out, shelf_of, values_out, outcome_out, started_out, unit_opened, opening_out, refused_shelf};
 
 use crate::layout::{Shelf, ShelfAce, ShelfAcl, ShelfOpening, ShelfOutcome, ShelfValues};
-use paper::answers::{Answer, Opened, Refusal, Status, Values};
+use lists::Table;
+use paper::answers::{Answer, Opened, Refusal, Values};
 use paper::outcomes::{Opening, Outcome, Started};
-use paper::state::{Ace, Acl, Coordinator, Extent, ID_SIZE, IdType};
+use paper::state::{Ace, Coordinator, Extent, IdType};
 use paper::{answers, state};
 
-fn kind_of(b: u8) -> IdType
-    ensures { result ≡ kind_of b }
+// The two that a byte names: 0 the first.
+fn one_of<T: Copy>(first: T, second: T, b: u8) -> T
+    ensures { result ≡ one_of first second b }
 {
-    if b == 0 {
-        return IdType::AccessId;
-    }
-    IdType::TransportId
+    if b == 0 { first } else { second }
 }
 
-fn extent_of(b: u8) -> Extent
-    ensures { result ≡ extent_of b }
+fn ace_in(a: &ShelfAce) -> Ace
+    ensures { result ≡ ace_in a.now }
 {
-    if b == 0 {
-        return Extent::Listed;
-    }
-    Extent::Everything
-}
-
-fn enabled_of(b: u8) -> bool
-    ensures { result ≡ enabled_of b }
-{
-    if b == 0 {
-        return false;
-    }
-    true
-}
-
-fn ace_in(a: ShelfAce) -> Ace
-    ensures { result ≡ ace_in a }
-{
-    let id = a.id;
-    let luacds = a.luacds;
+    let ShelfAce {
+        kind,
+        extent,
+        id,
+        count,
+        luacds,
+    } = *a;
     Ace {
-        kind: kind_of(a.kind),
-        extent: extent_of(a.extent),
-        id: id,
-        count: a.count,
-        luacds: luacds,
+        kind: one_of(IdType::AccessId, IdType::TransportId, kind),
+        extent: one_of(Extent::Listed, Extent::Everything, extent),
+        id,
+        count,
+        luacds,
     }
 }
 
 // Whether the bytes of an ACE name its type and what it holds.
-fn well_ace(a: ShelfAce) -> bool
-    ensures { result ≡ well_ace a }
+fn well_ace(a: &ShelfAce) -> bool
+    ensures { result ≡ well_ace a.now }
 {
-    if 1 < a.kind {
-        return false;
-    }
-    a.extent <= 1
+    a.kind <= 1 && a.extent <= 1
 }
 
 // Every entry is looked at, in use or not: the next state keeps them all.
-pub fn well_named(s: Shelf) -> bool
-    ensures { result ≡ well_named s }
+fn well_aces(aces: &[ShelfAce]) -> bool
+    ensures { result ≡ all well_ace aces.now }
 {
-    if 1 < s.enabled {
-        return false;
-    }
-    let items = s.acl.items;
-    let mut k = 0;
-    while k < 32 {
-        let a = items[k];
-        if !well_ace(a) {
-            return false;
-        }
-        k += 1;
-    }
-    true
+    aces.iter().all(|a| well_ace(a))
 }
 
-fn aces_in(from: [ShelfAce; 32]) -> [Ace; 32]
-    ensures { result ≡ map ace_in from }
+#[tactic(auto, unfolding(crate::specs::Crossing::well_named))]
+pub fn well_named(s: &Shelf) -> bool
+    ensures { result ≡ well_named s.now }
 {
-    let mut items = [state::no_ace(); 32];
-    let mut k = 0;
-    while k < 32 {
-        let a = from[k];
-        items[k] = ace_in(a);
-        k += 1;
-    }
-    items
+    s.enabled <= 1 && well_aces(&s.acl.items)
 }
 
-pub fn coordinator_in(s: Shelf) -> Coordinator
-    ensures { result ≡ coordinator_in s }
+fn aces_in(from: &[ShelfAce; 32]) -> [Ace; 32]
+    ensures { result ≡ map ace_in from.now }
 {
-    let initiators = s.initiators;
-    let units = s.units;
-    let tokens = s.tokens;
-    let proxies = s.proxies;
-    let aces = s.acl.items;
+    lists::mapped(state::no_ace(), from, |a| ace_in(a))
+}
+
+#[tactic(auto, unfolding(crate::specs::Crossing::coordinator_in))]
+pub fn coordinator_in(s: &Shelf) -> Coordinator
+    ensures { result ≡ coordinator_in s.now }
+{
     Coordinator {
-        enabled: enabled_of(s.enabled),
+        enabled: one_of(false, true, s.enabled),
         generation: s.generation,
         key: s.key,
-        initiators: initiators,
-        units: units,
-        acl: Acl {
+        initiators: s.initiators,
+        units: s.units,
+        acl: Table {
             count: s.acl.count,
-            items: aces_in(aces),
+            items: aces_in(&s.acl.items),
         },
-        tokens: tokens,
-        proxies: proxies,
+        tokens: s.tokens,
+        proxies: s.proxies,
     }
 }
 
-fn kind_byte(k: IdType) -> u8
-    ensures { result ≡ kind_byte k }
-{
-    match k {
-        IdType::AccessId => 0,
-        IdType::TransportId => 1,
-    }
-}
-
+// Stays: the byte of what an ACE holds is told by C's header alone, and `Extent` is paper's, where an impl of `From` would have to stand.
 fn extent_byte(e: Extent) -> u8
     ensures { result ≡ extent_byte e }
 {
@@ -132,113 +92,80 @@ fn extent_byte(e: Extent) -> u8
     }
 }
 
-fn enabled_byte(on: bool) -> u8
-    ensures { result ≡ enabled_byte on }
+fn ace_out(a: &Ace) -> ShelfAce
+    ensures { result ≡ ace_out a.now }
 {
-    if on {
-        return 1;
-    }
-    0
-}
-
-fn ace_out(a: Ace) -> ShelfAce
-    ensures { result ≡ ace_out a }
-{
-    let kind = a.kind;
-    let extent = a.extent;
-    let id = a.id;
-    let luacds = a.luacds;
+    let Ace {
+        kind,
+        extent,
+        id,
+        count,
+        luacds,
+    } = *a;
     ShelfAce {
-        kind: kind_byte(kind),
+        kind: u8::from(kind),
         extent: extent_byte(extent),
-        id: id,
-        count: a.count,
-        luacds: luacds,
+        id,
+        count,
+        luacds,
     }
 }
 
-fn no_ace() -> ShelfAce {
-    ShelfAce {
-        kind: 0,
-        extent: 0,
-        id: [0; ID_SIZE],
-        count: 0,
-        luacds: [state::no_luacd(); 16],
-    }
-}
-
-fn aces_out(from: [Ace; 32]) -> [ShelfAce; 32]
-    ensures { result ≡ map ace_out from }
+fn aces_out(from: &[Ace; 32]) -> [ShelfAce; 32]
+    ensures { result ≡ map ace_out from.now }
 {
-    let mut items = [no_ace(); 32];
-    let mut k = 0;
-    while k < 32 {
-        let a = from[k];
-        items[k] = ace_out(a);
-        k += 1;
-    }
-    items
+    lists::mapped(ace_out(&state::no_ace()), from, |a| ace_out(a))
 }
 
-fn shelf_of(c: Coordinator) -> Shelf
-    ensures { result ≡ shelf_of c }
+#[tactic(auto, unfolding(crate::specs::Crossing::shelf_of))]
+fn shelf_of(c: &Coordinator) -> Shelf
+    ensures { result ≡ shelf_of c.now }
 {
-    let initiators = c.initiators;
-    let units = c.units;
-    let tokens = c.tokens;
-    let proxies = c.proxies;
-    let aces = c.acl.items;
     Shelf {
-        enabled: enabled_byte(c.enabled),
+        enabled: u8::from(c.enabled),
         generation: c.generation,
         key: c.key,
-        initiators: initiators,
-        units: units,
+        initiators: c.initiators,
+        units: c.units,
         acl: ShelfAcl {
             count: c.acl.count,
-            items: aces_out(aces),
+            items: aces_out(&c.acl.items),
         },
-        tokens: tokens,
-        proxies: proxies,
-    }
-}
-
-fn status_byte(s: Status) -> u8
-    ensures { result ≡ status_byte s }
-{
-    match s {
-        Status::Byte(b) => b,
-        Status::NoStatus => 0xFF,
+        tokens: c.tokens,
+        proxies: c.proxies,
     }
 }
 
 fn values_out(v: Values) -> ShelfValues
     ensures { result ≡ values_out v }
 {
-    let status = v.status;
-    let sense = v.sense;
+    let Values {
+        status,
+        number,
+        sense,
+    } = v;
     ShelfValues {
-        status: status_byte(status),
-        number: v.number,
-        sense: sense,
+        status: status.unwrap_or(0xFF),
+        number,
+        sense,
     }
 }
 
-pub fn outcome_out(o: Outcome) -> ShelfOutcome
-    ensures { result ≡ outcome_out o }
+pub fn outcome_out(o: &Outcome) -> ShelfOutcome
+    ensures { result ≡ outcome_out o.now }
 {
     ShelfOutcome {
-        state: shelf_of(o.state),
+        state: shelf_of(&o.state),
         values: values_out(o.values),
         delivered: o.delivered,
     }
 }
 
-pub fn started_out(o: Started) -> ShelfOutcome
-    ensures { result ≡ started_out o }
+pub fn started_out(o: &Started) -> ShelfOutcome
+    ensures { result ≡ started_out o.now }
 {
     ShelfOutcome {
-        state: shelf_of(o.state),
+        state: shelf_of(&o.state),
         values: values_out(o.values),
         delivered: 0,
     }
@@ -249,17 +176,15 @@ fn unit_opened(o: Opened) -> u8
 {
     match o {
         Opened::Opens(u) => u,
-        Opened::Closed(k) => 0,
-        Opened::Barred(n) => 0,
+        Opened::Closed(_) | Opened::Barred(_) => 0,
     }
 }
 
 pub fn opening_out(o: Opening) -> ShelfOpening
     ensures { result ≡ opening_out o }
 {
-    let opened = o.opened;
     ShelfOpening {
-        unit: unit_opened(opened),
+        unit: unit_opened(o.opened),
         values: values_out(o.values),
     }
 }

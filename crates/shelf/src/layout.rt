@@ -1,6 +1,7 @@
 // What crosses to C, by value and with C's layout. It is the coordinator of crates/paper with a byte where that has an enum, since no enum crosses, or a bool, since C can hand in one that is neither false nor true.
 use paper::state::{ID_SIZE, Initiators, Luacd, ProxyLuns, Tokens, Units};
 
+// Stays: C's layout; the counts here and in the list of ACEs stand beside their arrays.
 // An ACE: its type is 0 AccessID, 1 TransportID; it holds 0 a list, 1 everything.
 #[repr(C)]
 #[derive(Clone, Copy)]

@@ -20,7 +20,7 @@ use paper::outcomes;
 pub extern "C" fn oberkosz_setup(ids: &[u8], luns: &[u8]) -> ShelfOutcome
     ensures { result ≡ started_out (started ids.now luns.now) }
 {
-    crossing::started_out(setup::setup(ids, luns))
+    crossing::started_out(&setup::setup(ids, luns))
 }
 
 #[unsafe(no_mangle)]
@@ -35,22 +35,22 @@ pub extern "C" fn oberkosz_command(
     ensures outcome { result ≡ call_outcome s (λ c. decide_command c initiator cdb.now list.now random (length reply.old)) }
     ensures bytes { reply.new ≡ call_buffer s (λ c. decide_command c initiator cdb.now list.now random (length reply.old)) reply.old }
 {
-    if !crossing::well_named(s) {
+    if !crossing::well_named(&s) {
         return crossing::refused_shelf(s);
     }
-    let c = crossing::coordinator_in(s);
-    crossing::outcome_out(commanding::command(c, initiator, cdb, list, random, reply))
+    let c = crossing::coordinator_in(&s);
+    crossing::outcome_out(&commanding::command(c, initiator, cdb, list, random, reply))
 }
 
 #[unsafe(no_mangle)]
 pub extern "C" fn oberkosz_link_event(s: Shelf, initiator: usize) -> ShelfOutcome
     ensures { result ≡ call_outcome s (λ c. decide_link c initiator) }
 {
-    if !crossing::well_named(s) {
+    if !crossing::well_named(&s) {
         return crossing::refused_shelf(s);
     }
-    let c = crossing::coordinator_in(s);
-    crossing::outcome_out(questions::link_event(c, initiator))
+    let c = crossing::coordinator_in(&s);
+    crossing::outcome_out(&questions::link_event(c, initiator))
 }
 
 #[unsafe(no_mangle)]
@@ -58,21 +58,21 @@ pub extern "C" fn oberkosz_reach(s: Shelf, reply: &mut [u8]) -> ShelfOutcome
     ensures outcome { result ≡ call_outcome s (λ c. decide_reach c (length reply.old)) }
     ensures bytes { reply.new ≡ call_buffer s (λ c. decide_reach c (length reply.old)) reply.old }
 {
-    if !crossing::well_named(s) {
+    if !crossing::well_named(&s) {
         return crossing::refused_shelf(s);
     }
-    let c = crossing::coordinator_in(s);
-    crossing::outcome_out(questions::reach(c, reply))
+    let c = crossing::coordinator_in(&s);
+    crossing::outcome_out(&questions::reach(c, reply))
 }
 
 #[unsafe(no_mangle)]
 pub extern "C" fn oberkosz_route(s: Shelf, initiator: usize, lun: u64) -> ShelfOpening
     ensures { result ≡ route_opening s initiator lun }
 {
-    if !crossing::well_named(s) {
+    if !crossing::well_named(&s) {
         return crossing::opening_out(outcomes::opening_of(Opened::Barred(Refusal::BadState)));
     }
-    let c = crossing::coordinator_in(s);
+    let c = crossing::coordinator_in(&s);
     crossing::opening_out(questions::route(c, initiator, lun))
 }
 
@@ -82,7 +82,7 @@ pub extern "C" fn oberkosz_route_standing(s: Shelf, initiator: usize, lun: u64) 
     requires { standing (coordinator_in s) ≡ true }
     ensures { result ≡ opening_out (opening_of (routed (coordinator_in s) initiator lun)) }
 {
-    let c = crossing::coordinator_in(s);
+    let c = crossing::coordinator_in(&s);
     crossing::opening_out(questions::route_standing(c, initiator, lun))
 }
 

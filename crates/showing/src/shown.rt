@@ -3,108 +3,85 @@ ghost use Rattle.std.specs.Prelude.{◌≤◌, length};
 
 use crate::out;
 use acl::telling;
-use audit::cells::Asked;
-use audit::{cells, sentence, table};
-use paper::state::Coordinator;
+use audit::cells::{Asked, Audited};
+use audit::{sentence, table};
+use paper::state::{Coordinator, Units};
 use std::io;
 use std::io::Write;
 
-fn is_initiators(a: Asked, i: u8, e: &[u8]) -> bool {
-    if !cells::is_shown(a, e) {
-        return false;
-    }
-    wire::byte(e, 0) == i
+// Stays: that a text has 140,000 bytes is required of a slice; an array's type would narrow what a caller may lend.
+
+// A table: the lines asked for, whether it is for spreadsheets, and how wide its columns are.
+#[derive(Clone, Copy)]
+struct Table {
+    asked: Asked,
+    tsv: bool,
+    widths: [u8; 6],
 }
 
-fn show_row<W: Write>(
-    to: &mut W,
-    a: Asked,
-    tsv: bool,
-    widths: &[u8],
-    e: &[u8],
-    text: &mut [u8],
-) -> io::Result<()>
-    requires { 140000 ≤ length text.old }
-{
-    let size = table::put_row(text, a, tsv, widths, e);
-    out::write_text(to, text, size)
-}
-
-// The line of a ground, if it is the initiator's and shown.
-fn show_ground<W: Write>(
-    to: &mut W,
-    i: u8,
-    a: Asked,
-    tsv: bool,
-    widths: &[u8],
-    e: &[u8],
-    text: &mut [u8],
-) -> io::Result<()>
-    requires { 140000 ≤ length text.old }
-{
-    if !is_initiators(a, i, e) {
-        return Ok(());
+impl Table {
+    fn show_row<W: Write>(&self, to: &mut W, e: &[u8], text: &mut [u8]) -> io::Result<()>
+        requires { 140000 ≤ length text.old }
+    {
+        let size = table::put_row(text, self.asked, self.tsv, &self.widths, e);
+        out::write_text(to, text, size)
     }
-    show_row(to, a, tsv, widths, e, text)
-}
 
-// The lines of the grounds of an initiator.
-fn show_of<W: Write>(
-    to: &mut W,
-    i: u8,
-    a: Asked,
-    tsv: bool,
-    widths: &[u8],
-    runs: &[u8],
-    size: usize,
-    text: &mut [u8],
-) -> io::Result<()>
-    requires { (1 ≤ size) × (140000 ≤ length text.old) }
-{
-    let mut rest = runs;
-    while size <= rest.len() {
-        show_ground(to, i, a, tsv, widths, &rest[..size], text)?;
-        rest = &rest[size..];
+    // The lines of the grounds of an initiator that are shown.
+    fn show_of<W: Write>(
+        &self,
+        to: &mut W,
+        i: u8,
+        runs: &[u8],
+        size: usize,
+        text: &mut [u8],
+    ) -> io::Result<()>
+        requires { (1 ≤ size) × (140000 ≤ length text.old) }
+    {
+        for e in runs.chunks_exact(size) {
+            if self.asked.is_shown(e) && wire::byte(e, 0) == i {
+                self.show_row(to, e, text)?;
+            }
+        }
+        Ok(())
     }
-    Ok(())
-}
 
-// "by initiator; of one initiator first those that ended .., then those that did not"
-fn show_all<W: Write>(
-    to: &mut W,
-    a: Asked,
-    tsv: bool,
-    widths: &[u8],
-    ended: &[u8],
-    standing: &[u8],
-    text: &mut [u8],
-) -> io::Result<()>
-    requires { 140000 ≤ length text.old }
-{
-    let mut i = 0;
-    while i < 16 {
-        show_of(to, i, a, tsv, widths, ended, 24, text)?;
-        show_of(to, i, a, tsv, widths, standing, 14, text)?;
-        i += 1;
+    // "by initiator; of one initiator first those that ended .., then those that did not"
+    fn show_all<W: Write>(&self, to: &mut W, audited: &Audited, text: &mut [u8]) -> io::Result<()>
+        requires { 140000 ≤ length text.old }
+    {
+        for i in 0..16 {
+            self.show_of(to, i, audited.ended, 24, text)?;
+            self.show_of(to, i, audited.standing, 14, text)?;
+        }
+        Ok(())
     }
-    Ok(())
 }
 
 // The table, with its headings.
 pub fn show_table<W: Write>(
     to: &mut W,
-    a: Asked,
     tsv: bool,
-    ended: &[u8],
-    standing: &[u8],
+    audited: &Audited,
     text: &mut [u8],
 ) -> io::Result<()>
     requires { 140000 ≤ length text.old }
 {
     let mut widths = [0u8; 6];
-    table::put_widths(&mut widths, text, a, ended, standing);
-    show_row(to, a, tsv, &widths, b"", text)?;
-    show_all(to, a, tsv, &widths, ended, standing, text)
+    table::put_widths(&mut widths, text, audited);
+    let table = Table {
+        asked: audited.asked,
+        tsv,
+        widths,
+    };
+    table.show_row(to, b"", text)?;
+    table.show_all(to, audited, text)
+}
+
+// The default LUN of a unit, if it is there.
+fn place_of(units: &Units, unit: u8) -> Option<u8> {
+    let lun = *units.in_use().get(unit as usize)?;
+    Some((lun % 256) as u8)
 }
 
 // The unit, its default LUN if it is there, and the lines.
@@ -117,16 +94,7 @@ fn show_first<W: Write>(
 ) -> io::Result<()>
     requires { 140000 ≤ length text.old }
 {
-    let units = c.units;
-    let luns = units.luns;
-    let u = unit as usize;
-    let mut there = false;
-    let mut nn = 0;
-    if u < 32 {
-        there = u < units.count;
-        nn = (luns[u] % 256) as u8;
-    }
-    let size = sentence::put_first(text, a, unit, there, nn);
+    let size = sentence::put_first(text, a, unit, place_of(&c.units, unit));
     out::write_text(to, text, size)?;
     out::write(to, b"\n")
 }
@@ -134,23 +102,22 @@ fn show_first<W: Write>(
 // "a table that lines up, one line a ground, then the answer in one sentence"
 pub fn show_audit<W: Write>(
     to: &mut W,
-    a: Asked,
     unit: u8,
     c: Coordinator,
-    ended: &[u8],
-    standing: &[u8],
+    audited: &Audited,
     text: &mut [u8],
 ) -> io::Result<()>
     requires { 140000 ≤ length text.old }
 {
-    show_first(to, a, unit, c, text)?;
-    show_table(to, a, false, ended, standing, text)?;
+    show_first(to, audited.asked, unit, c, text)?;
+    show_table(to, false, audited, text)?;
     out::write(to, b"\n")?;
-    let size = sentence::put_answer(text, a, unit, ended, standing);
+    let size = sentence::put_answer(text, unit, audited);
     out::write_text(to, text, size)
 }
 
 // The state in words.
+#[tactic(auto, using(acl::proofs::Most::state_most))]
 pub fn show_state<W: Write>(to: &mut W, c: Coordinator, text: &mut [u8]) -> io::Result<()>
     requires { 140000 ≤ length text.old }
 {

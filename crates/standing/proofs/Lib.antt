@@ -1,3 +1,3 @@
-pub mod Entries
-pub mod Pairs
+pub mod Chunks
+pub mod Live
 pub mod Setup

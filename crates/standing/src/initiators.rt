@@ -1,117 +1,71 @@
 // The initiators: each TransportID by itself, each two, and the AccessID of each enrolment.
-ghost use Rattle.std.specs.Prelude.{◌≡◌, not, ◌*◌, ◌<◌, ◌≤◌, length, take, drop};
+ghost use Rattle.std.specs.Prelude.{◌≡◌, not, ◌<◌, ◌/◌, ◌≤◌, length, take};
 ghost use Rattle.lists.specs.Lists.{all, pairs, parts};
 ghost use Rattle.lists.specs.Bytes.{same_bytes};
 ghost use Rattle.paper.specs.Identifiers.{valid_transport};
-ghost use Rattle.paper.specs.Tables.{enrolments_of};
-ghost use Rattle.paper.specs.Rows.{is_for};
+ghost use Rattle.paper.specs.Tables.{transports_of, enrolments_of, enrolment_in};
 ghost use Rattle.paper.specs.Standing.{enrolment_refers};
-ghost use Rattle.paper.specs.declared.state.IdType.TheVariants.{AccessId};
-ghost use Rattle.standing.specs.Tests.{is_enrolled};
 
-use paper::state::{Ace, Coordinator, ID_SIZE, IDS_SIZE, IdType, Initiators};
-use tables::enrolments::{enrolment_part, transport_part};
-use tables::lookups;
-use tables::lookups::capped;
+use paper::state::{Coordinator, ENROLMENT_SIZE, ID_SIZE, IdType};
+use tables::enrolments::Enrolment;
+use tables::{aces, identifiers};
 
-// "a TransportID is 24 bytes and starts with 00h (Fibre Channel) or 01h (parallel SCSI)"
-pub fn valid_transport(id: &[u8]) -> bool
-    ensures { result ≡ valid_transport id.now }
+// The first n parts of bytes that hold one of N bytes for each initiator.
+#[tactic(auto, using(crate::proofs::Chunks::chunks_parts))]
+fn parts<const N: usize>(bytes: &[u8], n: usize) -> &[[u8; N]]
+    requires { 0 < N }
+    ensures { result.now ≡ take n (parts N (length bytes.now / N) bytes.now) }
 {
-    if id.len() != ID_SIZE {
-        return false;
-    }
-    id[0] < 2
+    let (all, _) = bytes.as_chunks();
+    lists::first(all, n)
+}
+
+// The TransportIDs, by initiator number.
+#[tactic(auto, using(crate::proofs::Chunks::transports_lem))]
+fn transports(c: &Coordinator) -> &[[u8; ID_SIZE]]
+    requires { c.now.initiators.count ≤ 16 }
+    ensures { result.now ≡ transports_of c.now }
+{
+    parts(&c.initiators.ids, c.initiators.count)
 }
 
 // "the initiators' 24-byte TransportIDs, all different and valid"
-pub fn transports_valid(t: Initiators) -> bool
-    requires { t.count ≤ 16 }
-    ensures { result ≡ all valid_transport (parts 24 t.count t.ids) }
+pub fn transports_valid(c: &Coordinator) -> bool
+    requires { c.now.initiators.count ≤ 16 }
+    ensures { result ≡ all valid_transport (transports_of c.now) }
 {
-    let n = t.count;
-    let ids = t.ids;
-    let mut i = 0;
-    while i < n {
-        if !valid_transport(transport_part(&ids, i)) {
-            return false;
+    transports(c)
+        .iter()
+        .all(|id| identifiers::valid_transport(id))
+}
+
+pub fn transports_once(c: &Coordinator) -> bool
+    requires { c.now.initiators.count ≤ 16 }
+    ensures { result ≡ not (pairs (same_bytes 24) (transports_of c.now)) }
+{
+    !lists::some_pair(transports(c), |a, b| wire::same(a, b, ID_SIZE))
+}
+
+// Whether an enrolment, read from its bytes, is under an AccessID that has an ACE, if it is under any.
+fn enrolment_refers(c: &Coordinator, e: &[u8]) -> bool
+    ensures { result ≡ enrolment_refers c.now (enrolment_in e.now) }
+{
+    match Enrolment::from_bytes(e) {
+        Enrolment::NotEnrolled => true,
+        Enrolment::Enrolled(id) | Enrolment::Pending(id) => {
+            aces::has_ace(c.acl.in_use(), IdType::AccessId, id)
         }
-        i += 1;
     }
-    true
-}
-
-fn same_transports(ids: &[u8; IDS_SIZE], i: usize, j: usize) -> bool
-    ensures { result ≡ same_bytes 24 (take 24 (drop (24 * i) ids.now)) (take 24 (drop (24 * j) ids.now)) }
-{
-    wire::same(transport_part(ids, i), transport_part(ids, j), ID_SIZE)
-}
-
-pub fn transports_once(t: Initiators) -> bool
-    requires { t.count ≤ 16 }
-    ensures { result ≡ not (pairs (same_bytes 24) (parts 24 t.count t.ids)) }
-{
-    let n = t.count;
-    let ids = t.ids;
-    let mut i = 0;
-    while i < n {
-        let next = i + 1;
-        let mut j = next;
-        while j < n {
-            if same_transports(&ids, i, j) {
-                return false;
-            }
-            j += 1;
-        }
-        i = next;
-    }
-    true
-}
-
-// Whether the bytes of an enrolment say enrolled or pending.
-fn is_enrolled(e: &[u8]) -> bool
-    ensures { result ≡ is_enrolled e.now }
-{
-    match wire::byte(e, 0) {
-        1 | 2 => true,
-        _ => false,
-    }
-}
-
-// Whether an ACE is that of the AccessID of an enrolment, which stands after the stage.
-fn is_under(a: Ace, e: &[u8]) -> bool
-    requires { 0 < length e.now }
-    ensures { result ≡ is_for AccessId (drop 1 e.now) a }
-{
-    lookups::is_for(a, IdType::AccessId, &e[1..])
 }
 
 // Each initiator that is enrolled or pending is so under an AccessID that has an ACE.
-pub fn enrolments_refer(c: Coordinator) -> bool
-    ensures { result ≡ all (enrolment_refers c) (enrolments_of c) }
+pub fn enrolments_refer(c: &Coordinator) -> bool
+    ensures { result ≡ all (enrolment_refers c.now) (enrolments_of c.now) }
 {
-    let initiators = c.initiators.count;
-    let n = capped(initiators, 16);
-    let bytes = c.initiators.enrolments;
-    let given = c.acl.count;
-    let m = capped(given, 32);
-    let items = c.acl.items;
-    let mut i = 0;
-    'each: while i < n {
-        let e = enrolment_part(&bytes, i);
-        i += 1;
-        if !is_enrolled(e) {
-            continue;
+    for e in parts::<ENROLMENT_SIZE>(&c.initiators.enrolments, c.initiators.count) {
+        if !enrolment_refers(c, e) {
+            return false;
         }
-        let mut j = 0;
-        while j < m {
-            let a = items[j];
-            if is_under(a, e) {
-                continue 'each;
-            }
-            j += 1;
-        }
-        return false;
     }
     true
 }

@@ -1,4 +1,2 @@
-pub mod Setters
 pub mod Listing
-pub mod Finding
 pub mod Enrolling

@@ -1,14 +1,11 @@
--- How enrolments change, in the enum of the code, and one enrolment as its 25 bytes hold it.
-use Rattle.std.specs.Prelude.{ℕ, List, ◌∷◌, map, cond, get_or, set, take, drop, replicate, eqb}
-use Rattle.lists.specs.Tables.{pad}
-use Rattle.paper.specs.Sizes.{id_size}
-use Rattle.paper.specs.Identifiers.{kept}
+-- How enrolments change, and what an enrolment is, in the enums of the code.
+use Rattle.std.specs.Prelude.{ℕ, List, map, cond, get_or, set, eqb}
 use Rattle.paper.specs.Contents.{Enrolment, not_enrolled, enrolled, pending}
 use Rattle.paper.specs.Effects.{suspended, ended_under}
-use Rattle.paper.specs.declared.state.IdType.TheVariants.{AccessId}
+use Rattle.tables.specs.declared.enrolments.Enrolment as code
+use Rattle.tables.specs.declared.enrolments.Enrolment.TheVariants.{NotEnrolled, Enrolled, Pending}
 use Rattle.tables.specs.declared.enrolments.Change.{Change}
 use Rattle.tables.specs.declared.enrolments.Change.TheVariants.{Joined, Left, LinkEvent, Flushed, EndedUnder}
-use Rattle.tables.specs.declared.enrolments.Stored.{Stored}
 
 -- the enrolments after a change; the AccessID is the one that is joined, or under which enrolments end
 abbrev pub changed : Change → List ℕ → List Enrolment → List Enrolment
@@ -26,15 +23,8 @@ changed_at (LinkEvent j) id i e = cond (eqb i j) (suspended e) e
 changed_at Flushed id i e = suspended e
 changed_at EndedUnder id i e = ended_under id e
 
--- an enrolment as it is stored
-abbrev pub stored_for : Enrolment → Stored
-stored_for not_enrolled = record { stage = 0; id = replicate id_size 0 }
-stored_for (enrolled id) = record { stage = 1; id = kept AccessId id }
-stored_for (pending id) = record { stage = 2; id = kept AccessId id }
-
-abbrev pub stored_bytes : Stored → List ℕ
-stored_bytes s = s.stage ∷ s.id
-
--- the identifier that stands at a place; a byte past the end counts as 0
-abbrev pub id_at : List ℕ → ℕ → List ℕ
-id_at bytes at = pad 0 id_size (take id_size (drop at bytes))
+-- an enrolment, in the enum of the code
+abbrev pub meant : code.Enrolment → Enrolment
+meant NotEnrolled = not_enrolled
+meant (Enrolled id) = enrolled id.now
+meant (Pending id) = pending id.now

@@ -1,38 +1,31 @@
-// ACEs made, put into the ACL and taken out of it.
-ghost use Rattle.std.specs.Prelude.{◌≡◌, ◌<◌, take};
+// ACEs made, and looked for.
+ghost use Rattle.std.specs.Prelude.{◌≡◌, take};
 ghost use Rattle.lists.specs.Lists.{is_some};
 ghost use Rattle.paper.specs.Contents.{these, everything};
 ghost use Rattle.paper.specs.Tables.{ace_of};
 ghost use Rattle.paper.specs.Rows.{ace_for};
 
 use crate::lookups;
+use lists::Table;
 use paper::state;
-use paper::state::{Ace, Acl, Extent, ID_SIZE, IdType, Luacd};
+use paper::state::{Ace, Extent, ID_SIZE, IdType, Luacd};
 
-pub fn has_ace(acl: Acl, k: IdType, id: &[u8]) -> bool
-    ensures { result ≡ is_some (ace_for (take acl.count acl.items) k id.now) }
+pub fn has_ace(aces: &[Ace], k: IdType, id: &[u8]) -> bool
+    ensures { result ≡ is_some (ace_for aces.now k id.now) }
 {
-    let given = acl.count;
-    let place = lookups::ace_place(acl, k, id);
-    place < lookups::capped(given, 32)
+    lookups::ace_for(aces, k, id).is_some()
 }
 
-// An ACE that holds the first LUACDs of an array.
-pub fn listed_ace(k: IdType, id: [u8; ID_SIZE], luacds: [Luacd; 16], given: usize) -> Ace
-    ensures { result ≡ ace_of k id (these (take given luacds)) }
+// An ACE that lists LUACDs, of which it takes the first 16.
+pub fn listed_ace(k: IdType, id: [u8; ID_SIZE], luacds: &[Luacd]) -> Ace
+    ensures { result ≡ ace_of k id (these (take 16 luacds.now)) }
 {
-    let count = lookups::capped(given, 16);
-    let mut items = [state::no_luacd(); 16];
-    let mut i = 0;
-    while i < count {
-        items[i] = luacds[i];
-        i += 1;
-    }
+    let Table { count, items } = lists::copied(state::no_luacd(), lists::first(luacds, 16));
     Ace {
         kind: k,
         extent: Extent::Listed,
-        id: id,
-        count: count,
+        id,
+        count,
         luacds: items,
     }
 }
@@ -44,7 +37,7 @@ pub fn all_units_ace(k: IdType, id: [u8; ID_SIZE]) -> Ace
     Ace {
         kind: k,
         extent: Extent::Everything,
-        id: id,
+        id,
         count: 0,
         luacds: [state::no_luacd(); 16],
     }

@@ -16,10 +16,8 @@ use paper::{setters, state};
 pub fn ended(c: Coordinator, e: EndKind, page: &[u8]) -> Coordinator
     ensures { result ≡ applied c (tokening (ended (ending_of e page.now))) }
 {
-    let ts = c.tokens;
-    let ps = c.proxies;
-    let live = tokens::tokens_after(ts, e, page);
-    let standing = proxies::proxies_after(ps, ts, e, page);
+    let live = tokens::tokens_after(&c.tokens, e, page);
+    let standing = proxies::proxies_after(&c.proxies, c.tokens.in_use(), e, page);
     setters::with_proxies(setters::with_tokens(c, live), standing)
 }
 
@@ -28,8 +26,8 @@ pub fn issued(c: Coordinator, t: Token) -> Coordinator
     requires { c.tokens.count < 32 }
     ensures { result ≡ with_tokens c (tokens_of c ++ (t ∷ [])) }
 {
-    let ts = c.tokens;
-    setters::with_tokens(c, tokens::token_added(ts, t))
+    let live = tokens::token_added(&c.tokens, t);
+    setters::with_tokens(c, live)
 }
 
 // A proxy LUN is assigned: initiator, LUN and token.
@@ -37,21 +35,21 @@ pub fn assigned(c: Coordinator, i: u8, l: u64, n: u64) -> Coordinator
     requires { c.proxies.count < 32 }
     ensures { result ≡ applied c (proxying (assigned i l n)) }
 {
-    let ps = c.proxies;
     let p = ProxyLun {
         initiator: i,
         lun: wire::lun_head(l),
         token: n,
     };
-    setters::with_proxies(c, proxies::proxy_added(ps, p))
+    let standing = proxies::proxy_added(&c.proxies, p);
+    setters::with_proxies(c, standing)
 }
 
 // An initiator's proxy LUN is released.
 pub fn released(c: Coordinator, i: u8, l: u64) -> Coordinator
     ensures { result ≡ applied c (proxying (released i l)) }
 {
-    let ps = c.proxies;
-    setters::with_proxies(c, proxies::proxy_released(ps, i, l))
+    let standing = proxies::proxy_released(&c.proxies, i, l);
+    setters::with_proxies(c, standing)
 }
 
 // Enrolments change.

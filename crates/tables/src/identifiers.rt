@@ -1,17 +1,15 @@
 // Identifiers: compared over a length that their type gives, type first.
 ghost use Rattle.std.specs.Prelude.{◌≡◌};
-ghost use Rattle.paper.specs.Identifiers.{type_byte, compared_bytes, same_id, kept};
+ghost use Rattle.paper.specs.Identifiers.{valid_transport, compared_bytes, same_id, kept};
 
-use crate::lookups;
 use paper::state::{ID_SIZE, IdType};
 
-pub fn type_byte(k: IdType) -> u8
-    ensures { result ≡ type_byte k }
+// "a TransportID is 24 bytes and starts with 00h (Fibre Channel) or 01h (parallel SCSI)"
+#[tactic(auto, unfolding(paper::specs::Identifiers::valid_transport))]
+pub fn valid_transport(id: &[u8]) -> bool
+    ensures { result ≡ valid_transport id.now }
 {
-    match k {
-        IdType::AccessId => 0,
-        IdType::TransportId => 1,
-    }
+    id.len() == ID_SIZE && id[0] < 2
 }
 
 pub fn compared_bytes(k: IdType) -> usize
@@ -24,26 +22,19 @@ pub fn compared_bytes(k: IdType) -> usize
 }
 
 // One type and identifier.
+#[tactic(auto, unfolding(paper::specs::Identifiers::same_id))]
 pub fn same_id(k: IdType, a: &[u8], l: IdType, b: &[u8]) -> bool
     ensures { result ≡ same_id k a.now l b.now }
 {
-    if type_byte(k) != type_byte(l) {
-        return false;
-    }
-    wire::same(a, b, compared_bytes(k))
+    k == l && wire::same(a, b, compared_bytes(k))
 }
 
 // An identifier as it is kept: the bytes that are compared, and zeros after them.
 pub fn kept_id(k: IdType, id: &[u8]) -> [u8; ID_SIZE]
     ensures { result ≡ kept k id.now }
 {
-    let given = compared_bytes(k);
-    let count = lookups::capped(given, id.len());
+    let compared = lists::first(id, compared_bytes(k));
     let mut bytes = [0; ID_SIZE];
-    let mut i = 0;
-    while i < count {
-        bytes[i] = id[i];
-        i += 1;
-    }
+    bytes[..compared.len()].copy_from_slice(compared);
     bytes
 }

@@ -5,8 +5,5 @@ ghost use Rattle.std.specs.Prelude.{◌≡◌, not, ◌&&◌, eqb};
 pub fn wrong_key(enabled: bool, key: u64, given: u64) -> bool
     ensures { result ≡ enabled && not (eqb given key) }
 {
-    if enabled {
-        return given != key;
-    }
-    false
+    enabled && given != key
 }

@@ -6,7 +6,6 @@ ghost use Rattle.paper.specs.Effects.{ends, outlives};
 ghost use Rattle.paper.specs.Pages.{tokens_in};
 ghost use Rattle.tables.specs.Endings.{ending_of};
 
-use crate::lookups;
 use paper::state;
 use paper::state::{Token, Tokens};
 
@@ -23,14 +22,11 @@ pub enum EndKind {
 pub fn lists_token(page: &[u8], n: u64) -> bool
     ensures { result ≡ any (λ m. eqb m n) (tokens_in page.now) }
 {
-    let mut left = wire::be16(page, 2) / 8;
-    let mut at = 4;
-    while 0 < left {
-        if wire::be64(page, at) == n {
+    let count = (wire::be16(page, 2) / 8) as usize;
+    for k in 0..count {
+        if wire::be64(page, 4 + 8 * k) == n {
             return true;
         }
-        at += 8;
-        left -= 1;
     }
     false
 }
@@ -40,63 +36,25 @@ pub fn ends_token(e: EndKind, page: &[u8], t: Token) -> bool
     ensures { result ≡ ends (ending_of e page.now) t }
 {
     match e {
-        EndKind::Own(i, n) => {
-            if t.requester != i {
-                return false;
-            }
-            t.number == n
-        }
-        EndKind::Named(j, l) => {
-            if t.requester != j {
-                return false;
-            }
-            wire::lun_of(t.lun) == l
-        }
+        EndKind::Own(i, n) => t.requester == i && t.number == n,
+        EndKind::Named(i, l) => t.requester == i && wire::lun_of(t.lun) == l,
         EndKind::Listed => lists_token(page, t.number),
         EndKind::AllTokens => true,
     }
 }
 
 // The tokens that live on.
-pub fn tokens_after(ts: Tokens, e: EndKind, page: &[u8]) -> Tokens
-    ensures { result ≡ token_table (keep (outlives (ending_of e page.now)) (take ts.count ts.items)) }
+pub fn tokens_after(ts: &Tokens, e: EndKind, page: &[u8]) -> Tokens
+    ensures { result ≡ token_table (keep (outlives (ending_of e page.now)) (take ts.now.count ts.now.items)) }
 {
-    let given = ts.count;
-    let count = lookups::capped(given, 32);
-    let from = ts.items;
-    let mut items = [state::no_token(); 32];
-    let mut kept = 0;
-    let mut i = 0;
-    while i < count {
-        let t = from[i];
-        if !ends_token(e, page, t) {
-            items[kept] = t;
-            kept += 1;
-        }
-        i += 1;
-    }
-    Tokens {
-        count: kept,
-        items: items,
-    }
+    let left = lists::kept(state::no_token(), ts.in_use(), |t| !ends_token(e, page, *t));
+    Tokens::from(left)
 }
 
 // The table with one token more, behind the others.
-pub fn token_added(ts: Tokens, t: Token) -> Tokens
-    requires { ts.count < 32 }
-    ensures { result ≡ token_table (take ts.count ts.items ++ (t ∷ [])) }
+pub fn token_added(ts: &Tokens, t: Token) -> Tokens
+    requires { ts.now.count < 32 }
+    ensures { result ≡ token_table (take ts.now.count ts.now.items ++ (t ∷ [])) }
 {
-    let count = ts.count;
-    let from = ts.items;
-    let mut items = [state::no_token(); 32];
-    let mut i = 0;
-    while i < count {
-        items[i] = from[i];
-        i += 1;
-    }
-    items[count] = t;
-    Tokens {
-        count: count + 1,
-        items: items,
-    }
+    Tokens::from(lists::added(state::no_token(), ts.in_use(), t))
 }

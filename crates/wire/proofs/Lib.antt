@@ -1,1 +1,3 @@
+pub mod Comparing
+pub mod Numbers
 pub mod Writing

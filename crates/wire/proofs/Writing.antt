@@ -1,17 +1,19 @@
--- Laws of writers. Two writers one after the other write the one's bytes and then the other's (`then`); a loop keeps what is
--- left to write (`Left`); and what is written from 0 on is what is delivered (`delivers`).
-use Prim.Native.Nat.{ℕ, zero, suc, ◌+◌, ◌/◌, ◌%◌, ◌^◌, ◌≤◌, ◌<◌}
+-- Laws of writers. Two writers one after the other write the one's bytes and then the other's (`then`); a run is
+-- stored as far as the limit and the buffer allow (`wrote_run`); a loop keeps what is left to write (`Left`); and what is written from 0 on is what is delivered (`delivers`).
+use Prim.Native.Nat.{ℕ, zero, suc, ◌+◌, ◌-◌, min, ◌≤◌, ◌<◌}
 use native.Mathlib.Omega.{arith}
 use native.Mathlib.Nat.{add-zero}
 use mathlib.Core.Path.{◌≡◌, refl, ap, ap₂, ◌∙◌, sym}
-use mathlib.Core.List.{List, [], ◌∷◌, ◌++◌}
+use mathlib.Core.List.{List, [], ◌∷◌, ◌++◌, append_assoc}
 use mathlib.Core.Bool.{Bool, true, false, cond}
-use lib.ListN.{length, take, set, length-append, length-set, drop_of_length-le}
-use lib.Seq.{set_out, take-nil}
+use native.Mathlib.Decide.{dec_lt}
+use lib.ListN.{length, take, drop, set, length-append, length-set, length-take, length-replicate, replicate, drop_of_length-le}
+use lib.Seq.{sets, sets-eq, set_out, take-nil, drop-drop}
 use lib.Dec.{ltb, leb-suc-suc}
 use borrow.Author.Tests.{lt-ltb, le-ltb}
-use Rattle.lists.specs.Bytes.{be_bytes, deliver}
-use Rattle.lists.proofs.Bytes.{bytes_join}
+use borrow.Rule.Slice.PartMut.{put_mid}
+use Rattle.std.proofs.lemmas.List.{take_min, take-replicate}
+use Rattle.lists.specs.Bytes.{deliver}
 use Rattle.wire.specs.Write.{put_at, writes, Wrote}
 
 -- ---- nothing is written
@@ -19,18 +21,57 @@ pub wrote_none : (limit at : ℕ) (buf : List ℕ) → Wrote limit at [] buf at 
 unfolding writes
 wrote_none limit at buf = record { ended = omega arith; holds = refl }
 
--- ---- one byte: in the buffer, past its end, or not below the limit
+-- ---- one byte
 pub wrote_in : (limit at b : ℕ) (buf : List ℕ) → at < limit → Wrote limit at (b ∷ []) buf (at + 1) (set buf at b)
 unfolding writes put_at
 wrote_in limit at b buf h = record { ended = refl; holds = rw (lt-ltb at limit h) }
 
-pub wrote_past : (limit at b : ℕ) (buf : List ℕ) → length buf ≤ at → at < limit → Wrote limit at (b ∷ []) buf (at + 1) buf
+-- ---- a run is stored as far as the limit and the buffer allow
+writes_past : (limit at : ℕ) (xs buf : List ℕ) → min limit (length buf) ≤ at → writes limit at xs buf ≡ buf
 unfolding writes put_at
-wrote_past limit at b buf k h = record { ended = refl; holds = rw (lt-ltb at limit h) (sym (set_out buf at b k)) }
+writes_past limit at [] buf h = refl
+writes_past limit at (x ∷ xs) buf h = go (dec_lt at limit) (writes_past limit (suc at) xs buf (omega arith))
+  where
+    go : Dec (at < limit) → writes limit (suc at) xs buf ≡ buf → writes limit at (x ∷ xs) buf ≡ buf
+    go (yes l) e = rw (lt-ltb at limit l, set_out buf at x (omega arith)) e
+    go (no l) e = rw (le-ltb at limit (omega arith)) e
 
-pub wrote_out : (limit at b : ℕ) (buf : List ℕ) → limit ≤ at → Wrote limit at (b ∷ []) buf (at + 1) buf
+writes_sets : (limit at : ℕ) (xs buf : List ℕ) → writes limit at xs buf ≡ sets buf at (take (min limit (length buf) - at) xs)
 unfolding writes put_at
-wrote_out limit at b buf h = record { ended = refl; holds = rw (le-ltb at limit h) }
+writes_sets limit at [] buf = rw take-nil
+writes_sets limit at (x ∷ xs) buf = go (dec_lt at (min limit (length buf))) (writes_sets limit (suc at) xs (set buf at x))
+  where
+    go : Dec (at < min limit (length buf)) → writes limit (suc at) xs (set buf at x) ≡ sets (set buf at x) (suc at) (take (min limit (length (set buf at x)) - suc at) xs) → writes limit at (x ∷ xs) buf ≡ sets buf at (take (min limit (length buf) - at) (x ∷ xs))
+    go (yes l) e =
+        let k : min limit (length buf) - at ≡ suc (min limit (length buf) - suc at) = omega arith in
+        rw (lt-ltb at limit (omega arith), e, length-set buf at x, k)
+    go (no l) e =
+        let k : min limit (length buf) - at ≡ 0 = omega arith in
+        writes_past limit at (x ∷ xs) buf (omega arith) ∙ rw k
+
+pub wrote_nothing : (limit at : ℕ) (xs buf : List ℕ) → min limit (length buf) ≤ at → Wrote limit at xs buf (at + length xs) buf
+wrote_nothing limit at xs buf h = record { ended = refl; holds = sym (writes_past limit at xs buf h) }
+
+-- as the code stores it: k bytes, which are as many of the run as there is room for
+pub wrote_run : (limit at end k : ℕ) (xs buf ys : List ℕ) → end ≡ min limit (length buf) → at ≤ end → k ≡ min (length xs) (end - at) → ys ≡ take k xs → Wrote limit at xs buf (at + length xs) (put_mid at k buf ys)
+wrote_run limit at end k xs buf ys r h q e =
+    let n : k ≡ length ys = omega (arith, ap length e, length-take k xs) in
+    let m : k ≡ min (end - at) (length xs) = omega arith in
+    let z : ys ≡ take (end - at) xs = rw m at e ∙ take_min (end - at) xs in
+    record {
+      ended = refl;
+      holds = rw (n, drop-drop) (sym (append_assoc (take at buf) ys (drop (at + length ys) buf)) ∙ sym (sets-eq ys buf at (omega arith)) ∙ rw (z, r) (sym (writes_sets limit at xs buf)));
+    }
+
+pub wrote_zeros : (limit at end n k m : ℕ) (buf ys : List ℕ) → end ≡ min limit (length buf) → at ≤ end → k ≡ min n (end - at) → ys ≡ replicate m 0 → m ≡ k → Wrote limit at (replicate n 0) buf (at + n) (put_mid at k buf ys)
+wrote_zeros limit at end n k m buf ys r h q e l =
+    let j : length (replicate {A = ℕ} n 0) ≡ n = length-replicate n 0 in
+    let z : replicate {A = ℕ} m 0 ≡ take k (replicate n 0) = rw l (sym (take-replicate {X = ℕ} k n 0 (omega arith))) in
+    let w = wrote_run limit at end k (replicate n 0) buf ys r h (omega arith) (e ∙ z) in
+    record { ended = omega (arith, w.ended); holds = w.holds }
+
+pub wrote_no_zeros : (limit at n : ℕ) (buf : List ℕ) → min limit (length buf) ≤ at → Wrote limit at (replicate n 0) buf (at + n) buf
+wrote_no_zeros limit at n buf h = let j : length (replicate {A = ℕ} n 0) ≡ n = length-replicate n 0 in record { ended = omega arith; holds = (wrote_nothing limit at (replicate n 0) buf h).holds }
 
 -- ---- one writer after the other
 pub writes_append : (limit at : ℕ) (xs ys buf : List ℕ) → writes limit at (xs ++ ys) buf ≡ writes limit (at + length xs) ys (writes limit at xs buf)
@@ -50,10 +91,6 @@ then_at {limit} {at} {m} {k} {e} {xs} {ys} {b₀} {b₁} {b₂} v q w =
 
 pub then : {limit at m e : ℕ} {xs ys b₀ b₁ b₂ : List ℕ} → Wrote limit at xs b₀ m b₁ → Wrote limit m ys b₁ e b₂ → Wrote limit at (xs ++ ys) b₀ e b₂
 then v w = then_at v v.ended w
-
--- a number in two halves
-pub halves : (n m x : ℕ) {limit at k e : ℕ} {b₀ b₁ b₂ : List ℕ} → Wrote limit at (be_bytes n (x / 256 ^ m)) b₀ k b₁ → Wrote limit k (be_bytes m (x % 256 ^ m)) b₁ e b₂ → Wrote limit at (be_bytes (n + m) x) b₀ e b₂
-halves n m x v w = rw (bytes_join n m x) (then v w)
 
 -- ---- what a loop has left to write: `rest`, from `at` on, to end at `total` with the buffer `final`
 pub record Left (limit at : ℕ) (rest buf : List ℕ) (total : ℕ) (final : List ℕ) : Type 0 where

@@ -1,8 +1,5 @@
--- Two bytes, one after the other.
-use Rattle.wire.proofs.Writing.{then}
-use Rattle.lists.specs.Bytes.{be_bytes}
+use Rattle.wire.proofs.Numbers.{bytes_16}
 use Rattle.wire.proofs.put_be16.Goals as goal
 
 pub returns : goal.returns
-unfolding be_bytes
-returns c = then c.put-a.ensures c.put.ensures
+returns c = rw (← bytes_16 c.args.x, ← c.to_be_bytes.ensures) c.put_bytes.ensures

@@ -1,18 +1,16 @@
-use Rattle.wire.proofs.Writing.{left_start, left_step, left_end}
-use Rattle.lists.proofs.Walk.{drop_one}
-use lib.ListN.{drop_of_length-le}
-use native.Mathlib.Omega.{arith}
-use mathlib.Core.Path.{refl, ◌∙◌}
+-- The run is stored as far as there is room for it, which may be nowhere.
+use Rattle.std.proofs.Common.{◌≡◌, ◌+◌, ◌-◌, ◌∙◌, sym, length, arith}
+use Rattle.std.proofs.Math.Seq.{take-length}
+use Rattle.wire.proofs.Writing.{wrote_run, wrote_nothing}
 use Rattle.wire.proofs.put_bytes.Goals as goal
 
-pub loop-j-init : goal.loop-j-init
-loop-j-init c = (omega arith, omega arith, refl, left_start _ _ _ _)
+pub returns-then-next-end : goal.returns-then-next-end
+returns-then-next-end c =
+    let k : c.args.at + length c.args.src.now - c.args.at ≡ length c.args.src.now = omega arith in
+    rw k (wrote_run _ _ _ _ _ _ _ c.min-end.ensures (omega arith) (omega arith) (c.copy_from_slice.ensures.after ∙ sym (take-length c.args.src.now)))
 
-pub loop-j-preserved : goal.loop-j-preserved
-loop-j-preserved c = (omega arith, omega arith, c.put-to.auto.buf ∙ c.loop-j.invariant.2, left_step (drop_one 0 c.args.src.now c.loop-j.j c.loop-j-test.true) c.loop-j.invariant.3 c.put-to.ensures)
+pub returns-then-at-end : goal.returns-then-at-end
+returns-then-at-end c = wrote_run _ _ _ _ _ _ _ c.min-end.ensures (omega arith) (omega arith) c.copy_from_slice-then-at-end.ensures.after
 
-pub shape_of-buf : goal.shape_of-buf
-shape_of-buf c = c.loop-j.invariant.2
-
-pub returns : goal.returns
-returns c = left_end (drop_of_length-le c.args.src.now c.loop-j-test.false) c.loop-j.invariant.3
+pub returns-else-at-end : goal.returns-else-at-end
+returns-else-at-end c = wrote_nothing _ _ _ _ (omega arith)

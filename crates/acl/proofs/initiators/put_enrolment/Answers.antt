@@ -1,17 +1,16 @@
--- The stage says which words, and the AccessID stands behind it.
-use native.Mathlib.Omega.{arith}
+-- Each has its words, and the AccessID stands behind them.
 use Rattle.wire.proofs.Writing.{then}
-use Rattle.acl.proofs.Named.{text_enrolled, text_pending, text_not}
+use Rattle.acl.specs.State.{enrolment_text}
 use Rattle.acl.proofs.initiators.put_enrolment.Goals as goal
 
-pub returns-then-stage-eq1 : goal.returns-then-stage-eq1
-returns-then-stage-eq1 c =
-    record { wrote = rw (text_enrolled c.args.e.now c.if-stage-eq1.true) (then c.put_bytes-a.ensures c.put_id.ensures.wrote); fits = omega (arith, c.put_bytes-a.ensures.ended, c.put_id.ensures.fits) }
+pub returns-in-NotEnrolled-clause-wrote : goal.returns-in-NotEnrolled-clause-wrote
+unfolding enrolment_text
+returns-in-NotEnrolled-clause-wrote c = rw c.in-NotEnrolled.is c.put_bytes.ensures
 
-pub returns-then-stage-eq2 : goal.returns-then-stage-eq2
-returns-then-stage-eq2 c =
-    record { wrote = rw (text_pending c.args.e.now c.if-stage-eq2.true) (then c.put_bytes-b.ensures c.put_id-then-stage-eq2.ensures.wrote); fits = omega (arith, c.put_bytes-b.ensures.ended, c.put_id-then-stage-eq2.ensures.fits) }
+pub returns-in-Enrolled-clause-wrote : goal.returns-in-Enrolled-clause-wrote
+unfolding enrolment_text
+returns-in-Enrolled-clause-wrote c = rw c.in-Enrolled.is (then c.put_bytes-a.ensures c.put_id.ensures.wrote)
 
-pub returns : goal.returns
-returns c =
-    record { wrote = rw (text_not c.args.e.now c.if-stage-eq1.false c.if-stage-eq2.false) c.put_bytes.ensures; fits = omega (arith, c.put_bytes.ensures.ended) }
+pub returns-in-Pending-clause-wrote : goal.returns-in-Pending-clause-wrote
+unfolding enrolment_text
+returns-in-Pending-clause-wrote c = rw c.in-Pending.is (then c.put_bytes-b.ensures c.put_id-in-Pending.ensures.wrote)

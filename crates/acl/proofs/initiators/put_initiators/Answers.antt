@@ -1,5 +1,5 @@
 -- The head, and the lines.
-use native.Mathlib.Omega.{arith}
+use Rattle.std.proofs.Common.{arith}
 use Rattle.lists.proofs.Parts.{length_parts}
 use Rattle.wire.proofs.Writing.{then}
 use Rattle.acl.specs.State.{initiators_text}
@@ -7,5 +7,7 @@ use Rattle.acl.proofs.initiators.put_initiators.Goals as goal
 
 pub returns : goal.returns
 unfolding initiators_text
-returns c =
-    record { wrote = rw (length_parts 24 c.args.t.count c.args.t.ids) (then c.put_head-next.ensures.wrote c.put_lines.ensures.wrote); fits = omega (arith, c.put_head-next.ensures.fits, c.put_lines.ensures.fits) }
+returns c = record {
+  wrote = rw (length_parts 24 c.args.t.now.count c.args.t.now.ids) (then c.put_head-next.ensures.wrote c.put_lines.ensures.wrote);
+  fits = omega (arith, c.put_head-next.ensures.fits, c.put_lines.ensures.fits);
+}

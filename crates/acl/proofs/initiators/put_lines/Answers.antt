@@ -1,37 +1,27 @@
-use mathlib.Core.Path.{◌∙◌}
-use native.Mathlib.Omega.{arith}
-use borrow.Author.Rules.{rules}
-use Rattle.lists.proofs.Places.{between_cons, between_nil, below_between}
-use Rattle.acl.proofs.Turns.{turns_none, turns_more, turns_end, lines_next, lines_none}
-use Rattle.acl.proofs.Named.{initiator_at, part_there}
+use Rattle.std.proofs.Common.{arith}
+use Rattle.lists.proofs.Places.{between_nil, below_between}
+use Rattle.wire.proofs.Writing.{left_start, left_step, left_end}
+use Rattle.acl.proofs.Named.{lines_next, initiator_at}
 use Rattle.acl.proofs.initiators.put_lines.Goals as goal
 
 pub loop-i-init : goal.loop-i-init
-loop-i-init c = (search rules, c.requires.0, turns_none _ _ _ _ _ _)
+loop-i-init c = record { near = omega arith; left = left_start _ _ _ _ }
 
 pub put_line-to-requires : goal.put_line-to-requires
-put_line-to-requires c =
-    let v = c.loop-i.invariant in
-    (rw c.enrolment_part-e.ensures (part_there c.args.t.enrolments c.loop-i.i v.0 (omega (arith, v.1))), omega (arith, v.2.reach))
-
-pub overflow_add-i : goal.overflow_add-i
-overflow_add-i c = omega arith
-
-pub loop-i-smaller : goal.loop-i-smaller
-loop-i-smaller c = omega arith
+put_line-to-requires c = omega (arith, c.requires.0, c.requires.1, c.loop-i.invariant.near, c.loop-i-test.true)
 
 pub loop-i-preserved : goal.loop-i-preserved
 loop-i-preserved c =
-    let t = c.args.t in
-    let v = c.loop-i.invariant in
-    let line = lines_next _ (between_cons _ _ c.loop-i-test.true) ∙ rw (initiator_at t.count t.ids t.enrolments c.loop-i.i c.loop-i-test.true) in
-    let wrote = rw (c.transport_part-id.ensures, c.enrolment_part-e.ensures) at c.put_line-to.ensures.wrote in
-    (v.0, v.1, turns_more v.2 c.loop-i-test.true line wrote c.put_line-to.ensures.fits)
-
-pub shape_of-text : goal.shape_of-text
-shape_of-text c = c.loop-i.invariant.2.long
+    let t = c.args.t.now in
+    let line = initiator_at t.count t.ids t.enrolments c.loop-i.i c.loop-i-test.true in
+    record {
+      near = omega (arith, c.loop-i.invariant.near, c.put_line-to.ensures.fits);
+      left = left_step (lines_next _ _ _ c.loop-i-test.true) c.loop-i.invariant.left
+          (rw (c.transport_part-id.ensures, c.from_bytes-e.ensures, c.enrolment_part.ensures, ← line) at c.put_line-to.ensures.wrote);
+    }
 
 pub returns : goal.returns
-returns c =
-    let v = c.loop-i.invariant in
-    record { wrote = rw below_between (turns_end v.2 (lines_none _ (between_nil _ _ c.loop-i-test.false))); fits = omega (arith, v.2.reach, v.2.passed) }
+returns c = record {
+  wrote = rw below_between (left_end (rw (between_nil _ _ c.loop-i-test.false)) c.loop-i.invariant.left);
+  fits = omega (arith, c.requires.0, c.loop-i.invariant.near, c.loop-i.auto.i-end);
+}

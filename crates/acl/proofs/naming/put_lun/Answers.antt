@@ -1,10 +1,9 @@
 -- The name, and two digits.
-use native.Mathlib.Omega.{arith}
+use Rattle.std.proofs.Common.{rules}
 use Rattle.wire.proofs.Writing.{then}
 use Rattle.acl.specs.State.{lun_text}
 use Rattle.acl.proofs.naming.put_lun.Goals as goal
 
-pub returns : goal.returns
+pub returns-clause-wrote : goal.returns-clause-wrote
 unfolding lun_text
-returns c =
-    record { wrote = then c.put_bytes-next.ensures c.put_pair.ensures; fits = omega (arith, c.put_bytes-next.ensures.ended, c.put_pair.ensures.ended) }
+returns-clause-wrote c = search (rules, then)

@@ -1,10 +1,9 @@
 -- The writers one after the other.
-use native.Mathlib.Omega.{arith}
+use Rattle.std.proofs.Common.{rules}
 use Rattle.wire.proofs.Writing.{then}
 use Rattle.acl.specs.State.{request_text}
 use Rattle.acl.proofs.tokens.put_request.Goals as goal
 
-pub returns : goal.returns
+pub returns-clause-wrote : goal.returns-clause-wrote
 unfolding request_text
-returns c =
-    record { wrote = then c.put_bytes-requested.ensures (then c.put_initiator-who.ensures.wrote (then c.put_bytes-named.ensures c.put_lun.ensures.wrote)); fits = omega (arith, c.put_bytes-requested.ensures.ended, c.put_initiator-who.ensures.fits, c.put_bytes-named.ensures.ended, c.put_lun.ensures.fits) }
+returns-clause-wrote c = search (rules, then)

@@ -1,42 +1,23 @@
-use Prim.Native.Nat.{ℕ}
-use mathlib.Core.Path.{◌∙◌}
-use native.Mathlib.Omega.{arith}
-use borrow.Author.Rules.{rules}
-use lib.ListN.{length-take}
-use lib.Seq.{get_or-take}
-use Rattle.lists.proofs.Walk.{length_mapped}
-use Rattle.lists.proofs.Places.{between_cons, between_nil, below_between}
-use Rattle.acl.proofs.Turns.{turns_none, turns_more, turns_end, lines_next, lines_none}
+use Rattle.std.proofs.Common.{arith}
+use Rattle.lists.proofs.Places.{between_nil, below_between}
+use Rattle.wire.proofs.Writing.{left_start, left_step, left_end}
+use Rattle.acl.proofs.Named.{lines_next}
 use Rattle.acl.proofs.units.put_lines.Goals as goal
 
-pub loop-u-init : goal.loop-u-init
-loop-u-init c = (search (length_mapped, rules), c.requires.0, turns_none _ _ _ _ _ _)
-
-pub offset_bounds-luns-u : goal.offset_bounds-luns-u
-offset_bounds-luns-u c = omega arith
-
-pub bounds-luns-u : goal.bounds-luns-u
-bounds-luns-u c = omega arith
+pub loop-unit-init : goal.loop-unit-init
+loop-unit-init c = record { near = omega arith; left = left_start _ _ _ _ }
 
 pub put_line-to-requires : goal.put_line-to-requires
-put_line-to-requires c = omega (arith, c.loop-u.invariant.2.reach)
+put_line-to-requires c = omega (arith, c.requires.0, c.requires.1, c.loop-unit.invariant.near, c.loop-unit-test.true)
 
-pub overflow_add-u : goal.overflow_add-u
-overflow_add-u c = omega arith
-
-pub loop-u-smaller : goal.loop-u-smaller
-loop-u-smaller c = omega arith
-
-pub loop-u-preserved : goal.loop-u-preserved
-loop-u-preserved c =
-    let v = c.loop-u.invariant in
-    let line = lines_next _ (between_cons _ _ c.loop-u-test.true) ∙ rw (get_or-take {A = ℕ} _ _ _ 0 c.loop-u-test.true) in
-    (v.0, v.1, turns_more v.2 c.loop-u-test.true line c.put_line-to.ensures.wrote c.put_line-to.ensures.fits)
-
-pub shape_of-text : goal.shape_of-text
-shape_of-text c = c.loop-u.invariant.2.long
+pub loop-unit-preserved : goal.loop-unit-preserved
+loop-unit-preserved c = record {
+  near = omega (arith, c.loop-unit.invariant.near, c.put_line-to.ensures.fits);
+  left = left_step (lines_next _ _ _ c.loop-unit-test.true) c.loop-unit.invariant.left c.put_line-to.ensures.wrote;
+}
 
 pub returns : goal.returns
-returns c =
-    let v = c.loop-u.invariant in
-    record { wrote = rw below_between (turns_end v.2 (lines_none _ (between_nil _ _ c.loop-u-test.false))); fits = omega (arith, v.2.reach, v.2.passed); counted = simp length-take (omega (arith, v.0, v.1)) }
+returns c = record {
+  wrote = rw below_between (left_end (rw (between_nil _ _ c.loop-unit-test.false)) c.loop-unit.invariant.left);
+  fits = omega (arith, c.requires.0, c.loop-unit.invariant.near, c.loop-unit.auto.unit-end);
+}

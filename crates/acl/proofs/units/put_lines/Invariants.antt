@@ -1,16 +1,14 @@
 -- What is left are the lines of the units that are left.
-use Prim.Native.Nat.{◌-◌, ◌≤◌}
-use mathlib.Core.Path.{◌≡◌}
-use lib.ListN.{length, take, get_or}
+use Rattle.std.proofs.Common.{◌+◌, ◌*◌, ◌≤◌, length, get_or}
 use Rattle.lists.specs.Lists.{gather}
 use Rattle.lists.proofs.Places.{between}
+use Rattle.wire.specs.Write.{writes}
+use Rattle.wire.proofs.Writing.{Left}
 use Rattle.acl.specs.State.{unit_line}
-use Rattle.acl.proofs.Turns.{Turns}
 use Rattle.acl.proofs.units.put_lines.Given as goal
 
-abbrev pub invariant-loop-u : goal.invariant-loop-u
-invariant-loop-u l =
-    (length l.luns ≡ 32) × (l.n ≤ 32) × Turns (λ j. gather (λ i. unit_line i (get_or (take l.n l.luns) i 0)) (between j l.n)) 37 l.n l.u l.limit l.at l.to l.initial.text l.text
-
-abbrev pub decreases-loop-u : goal.decreases-loop-u
-decreases-loop-u l = l.n - l.u
+abbrev pub invariant-loop-unit : goal.invariant-loop-unit
+invariant-loop-unit l = record {
+  near : l.to ≤ l.at + 37 * l.unit;
+  left : Left l.limit l.to (gather (λ u. unit_line u (get_or l.luns u 0)) (between l.unit (length l.luns))) l.text (l.at + length (gather (λ u. unit_line u (get_or l.luns u 0)) (between 0 (length l.luns)))) (writes l.limit l.at (gather (λ u. unit_line u (get_or l.luns u 0)) (between 0 (length l.luns))) l.initial.text);
+}

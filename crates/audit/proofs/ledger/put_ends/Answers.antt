@@ -1,38 +1,28 @@
-use mathlib.Core.Path.{ap}
 use native.Mathlib.Omega.{arith}
-use Rattle.audit.specs.Ledger.{deed_bytes, runs_of, ends_by, ends_after}
-use Rattle.audit.proofs.Runs.{run_at, run_long, cut_is, cut_size, runs_next, runs_end}
-use Rattle.audit.proofs.Writers.{laid_start, laid_next, laid_end, wrote_as, ends_within}
+use Rattle.audit.specs.Ledger.{deed_bytes, runs_of, ends_after}
+use Rattle.audit.proofs.Writers.{laying_room, laying_next, laying_end, ends_within}
 use Rattle.audit.proofs.Grounds.{deed_size, end_most}
+use Rattle.audit.proofs.Runs.{chunk_next, chunks_end, few_runs}
 use Rattle.audit.proofs.ledger.put_ends.Goals as goal
-
-pub loop-k-init : goal.loop-k-init
-unfolding ends_after
-loop-k-init c = laid_start _ _ _ _ _ _
 
 pub put_end-at-requires : goal.put_end-at-requires
 unfolding ends_after
-put_end-at-requires c = (cut_size 14 _ c.loop-k-test.true, omega (arith, c.loop-k.invariant.near))
+put_end-at-requires c =
+    let v = c.loop-e.invariant in
+    let next = chunk_next 14 c.loop-e.e-iterator c.next.new.self (omega arith) v.0 c.in-Some.e c.in-Some.ensures.steps in
+    (next.1, omega (arith, laying_room v.1 next.2, few_runs 14 c.args.standing.now))
 
-pub loop-k-preserved : goal.loop-k-preserved
+pub loop-e-preserved : goal.loop-e-preserved
 unfolding ends_after
-loop-k-preserved c =
-    let k = c.loop-k.k in
+loop-e-preserved c =
+    let v = c.loop-e.invariant in
     let a = c.args in
-    let s = a.standing.now in
-    let deed = deed_bytes a.deed.what a.deed.by a.deed.line in
-    let f = ends_by (runs_of 4 a.rows.now) deed a.to in
-    let h = c.loop-k-test.true in
-    let wrote = wrote_as (ap f (cut_is 14 s k)) c.put_end-at.ensures in
-    let few = end_most (runs_of 4 a.rows.now) deed a.to (run_at 14 s k) (deed_size a.deed.what a.deed.by a.deed.line) (run_long 14 s h) in
-    laid_next c.loop-k.invariant (runs_next 14 s h) (ends_within few wrote) wrote
-
-pub shape_of-ended : goal.shape_of-ended
-unfolding ends_after
-shape_of-ended c = c.loop-k.invariant.same
+    let next = chunk_next 14 c.loop-e.e-iterator c.next.new.self (omega arith) v.0 c.in-Some.e c.in-Some.ensures.steps in
+    let few = end_most (runs_of 4 a.rows.now) (deed_bytes a.deed) a.to c.in-Some.e.now (deed_size a.deed) next.1 in
+    (next.0, laying_next v.1 next.2 (ends_within few c.put_end-at.ensures) c.put_end-at.ensures)
 
 pub returns : goal.returns
 unfolding ends_after
 returns c =
-    let a = c.args in
-    laid_end c.loop-k.invariant (runs_end 14 a.standing.now c.loop-k-test.false)
+    let v = c.loop-e.invariant in
+    laying_end v.1 (chunks_end 14 c.loop-e.e-iterator c.next.new.self (omega arith) v.0 c.in-None.ensures.steps)

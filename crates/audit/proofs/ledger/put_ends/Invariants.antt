@@ -1,12 +1,11 @@
 -- What is left of the grounds is what is left to be written.
-use Prim.Native.Nat.{◌-◌}
+use mathlib.Core.Path.{◌≡◌}
+use Rattle.std.specs.Slice.Iter.{chunks_exact_rest, chunks_exact_size}
 use Rattle.audit.specs.Ledger.{deed_bytes, runs_of, ends_by}
-use Rattle.audit.proofs.Writers.{Laid}
+use Rattle.audit.proofs.Writers.{Laying}
 use Rattle.audit.proofs.ledger.put_ends.Given as goal
 
-abbrev pub invariant-loop-k : goal.invariant-loop-k
-invariant-loop-k l =
-    Laid (ends_by (runs_of 4 l.rows) (deed_bytes l.deed.what l.deed.by l.deed.line) l.to) (runs_of 14 l.standing) 24 l.limit l.used l.initial.ended l.k l.at l.ended
-
-abbrev pub decreases-loop-k : goal.decreases-loop-k
-decreases-loop-k l = l.n - l.k
+abbrev pub invariant-loop-e : goal.invariant-loop-e
+invariant-loop-e l =
+    (chunks_exact_size l.e-iterator ≡ 14)
+    × Laying (ends_by (runs_of 4 l.rows) (deed_bytes l.deed) l.to) (runs_of 14 l.standing) 24 l.limit l.used l.initial.ended (runs_of 14 (chunks_exact_rest l.e-iterator)) l.at l.ended

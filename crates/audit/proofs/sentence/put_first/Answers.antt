@@ -1,18 +1,13 @@
 -- The unit, the lines, and the end of the line.
-use native.Mathlib.Omega.{arith}
+use Rattle.audit.proofs.Sentences.{first_most}
+use Rattle.audit.proofs.Writers.{ends_within}
 use Rattle.wire.proofs.Writing.{then}
 use Rattle.audit.specs.Sentence.{first_text}
-use Rattle.audit.proofs.Sentences.{unit_most, lines_most}
 use Rattle.audit.proofs.sentence.put_first.Goals as goal
 
-pub put_lines-told-requires : goal.put_lines-told-requires
+pub returns-clause-text : goal.returns-clause-text
 unfolding first_text
-put_lines-told-requires c = omega (arith, c.put_unit-named.ensures.ended, unit_most c.args.unit c.args.there c.args.nn)
+returns-clause-text c = then c.put_unit-named.ensures (then c.put_lines-told.ensures c.put.ensures)
 
-pub put-requires : goal.put-requires
-unfolding first_text
-put-requires c = omega (arith, c.put_unit-named.ensures.ended, c.put_lines-told.ensures.ended, unit_most c.args.unit c.args.there c.args.nn, lines_most c.args.a)
-
-pub returns : goal.returns
-unfolding first_text
-returns c = then c.put_unit-named.ensures (then c.put_lines-told.ensures c.put.ensures)
+pub returns-clause-size : goal.returns-clause-size
+returns-clause-size c = ends_within (first_most _ _ _) (returns-clause-text c)

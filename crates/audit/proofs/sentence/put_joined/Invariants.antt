@@ -1,5 +1,4 @@
 -- The names that are left are what is left to be written.
-use Prim.Native.Nat.{◌-◌}
 use lib.ListN.{length}
 use Rattle.lists.specs.Lists.{below}
 use Rattle.audit.proofs.Writers.{Laid}
@@ -8,6 +7,3 @@ use Rattle.audit.proofs.sentence.put_joined.Given as goal
 
 abbrev pub invariant-loop-k : goal.invariant-loop-k
 invariant-loop-k l = Laid (name_text l.names) (below (length l.names)) 25 l.limit l.at l.initial.text l.k l.to l.text
-
-abbrev pub decreases-loop-k : goal.decreases-loop-k
-decreases-loop-k l = length l.names - l.k

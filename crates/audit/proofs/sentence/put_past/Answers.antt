@@ -1,7 +1,5 @@
 -- Past the last line the journal's end is told.
-use native.Mathlib.Omega.{arith}
 use borrow.Author.Tests.{lt-ltb, le-ltb}
-use Rattle.journal.proofs.Told.{decimal_most}
 use Rattle.wire.proofs.Writing.{then, wrote_none}
 use Rattle.audit.specs.Sentence.{past_text}
 use Rattle.audit.proofs.sentence.put_past.Goals as goal
@@ -9,10 +7,6 @@ use Rattle.audit.proofs.sentence.put_past.Goals as goal
 pub returns-then-a : goal.returns-then-a
 unfolding past_text
 returns-then-a c = rw (le-ltb _ _ c.if-a.true) (wrote_none _ _ _)
-
-pub put-requires : goal.put-requires
-unfolding past_text
-put-requires c = omega (arith, c.put_bytes-told.ensures.ended, c.put_decimal-last.ensures.ended, decimal_most c.args.a.last)
 
 pub returns : goal.returns
 unfolding past_text

@@ -16,10 +16,6 @@ invariant-loop-k l =
     (l.tsv ≡ false)
     × (l.end ≡ l.width + 2)
     × (l.end ≤ 257)
-    × (l.size ≤ l.k)
     × (l.to + l.size ≡ l.at + l.k)
     × (length l.text ≡ length l.initial.text)
     × Left l.limit l.to (blanks (l.end - l.k)) l.text (l.at + length (blanks (l.end - l.size))) (writes l.limit l.at (blanks (l.end - l.size)) l.initial.text)
-
-abbrev pub decreases-loop-k : goal.decreases-loop-k
-decreases-loop-k l = l.end - l.k

@@ -1,5 +1,5 @@
 -- What is left of the six columns is what is left to be written; then come the last cell and the end of the line.
-use Prim.Native.Nat.{◌≤◌, ◌-◌}
+use Prim.Native.Nat.{◌≤◌}
 use Rattle.lists.specs.Lists.{below}
 use Rattle.audit.specs.Cells.{filled_cell}
 use Rattle.audit.proofs.Writers.{Laid}
@@ -7,6 +7,3 @@ use Rattle.audit.proofs.table.put_row.Given as goal
 
 abbrev pub invariant-loop-k : goal.invariant-loop-k
 invariant-loop-k l = (l.k ≤ 6) × Laid (filled_cell l.a l.tsv l.widths l.e) (below 6) 331 l.limit 0 l.initial.text l.k l.at l.text
-
-abbrev pub decreases-loop-k : goal.decreases-loop-k
-decreases-loop-k l = 6 - l.k

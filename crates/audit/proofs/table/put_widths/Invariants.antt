@@ -1,5 +1,5 @@
 -- What is left of the six widths is what is left to be written.
-use Prim.Native.Nat.{ℕ, ◌-◌}
+use Prim.Native.Nat.{ℕ}
 use mathlib.Core.Path.{◌≡◌}
 use mathlib.Core.List.{List, [], ◌∷◌}
 use lib.ListN.{length}
@@ -14,7 +14,4 @@ abbrev width_byte : Asked → List ℕ → List ℕ → ℕ → List ℕ
 width_byte a ended standing column = column_width a (runs_of 24 ended) (runs_of 14 standing) column ∷ []
 
 abbrev pub invariant-loop-k : goal.invariant-loop-k
-invariant-loop-k l = (length l.text ≡ length l.initial.text) × Laid (width_byte l.a l.ended l.standing) (below 6) 1 l.limit 0 l.initial.widths l.k l.at l.widths
-
-abbrev pub decreases-loop-k : goal.decreases-loop-k
-decreases-loop-k l = 6 - l.k
+invariant-loop-k l = (length l.text ≡ length l.initial.text) × Laid (width_byte l.audited.asked l.audited.ended.now l.audited.standing.now) (below 6) 1 l.limit 0 l.initial.widths l.k l.at l.widths

@@ -5,15 +5,18 @@ use Rattle.journal.specs.Statements.{command_word}
 use Rattle.paper.specs.Outcomes.{decide_command}
 use lib.ListN.{length}
 use mathlib.Core.Path.{◌∙◌}
+use Prim.Native.Nat.{◌≤◌}
+use Rattle.journal.proofs.Told.{lent_most}
 use native.Mathlib.Omega.{arith}
 use Rattle.journal.proofs.answering.answer_command.Goals as goal
 
-pub lent_line-size-requires : goal.lent_line-size-requires
+pub line-size-requires : goal.line-size-requires
 unfolding step_said
-lent_line-size-requires c =
-    let a = c.args in
-    let fits = command_fits a.c a.i a.cdb.now a.list.now a.random _ c.command-outcome.ensures.outcome in
-    (omega arith, omega (arith, fits, c.command-outcome.auto.reply), omega (arith, c.command-outcome.auto.reply, c.fill.auto.reply, c.requires.0), omega (arith, c.requires.1))
+line-size-requires c =
+    let called = c.command-outcome in
+    let fits = command_fits c.args.c c.args.i c.args.cdb.now c.args.list.now c.args.random _ c.command-outcome.ensures.outcome in
+    let small : length called.new.reply ≤ 65536 = omega (arith, called.auto.reply, c.fill.auto.reply, c.requires.0) in
+    (omega arith, (omega (arith, fits, called.auto.reply), small), lent_most called.result.answer called.result.delivered called.new.reply small, omega arith, c.requires.1)
 
 pub returns : goal.returns
 unfolding step_said
@@ -22,4 +25,4 @@ returns c =
     let decide = decide_command a.c a.i a.cdb.now a.list.now a.random in
     let n = length a.reply.now in
     let called = c.command-outcome.ensures in
-    record { state = call_state a.c decide n c.fill.ensures called.outcome called.bytes; text = c.lent_line-size.ensures.text ∙ call_text a.c decide n c.fill.ensures called.outcome called.bytes command_word; room = c.lent_line-size.ensures.room }
+    record { state = call_state a.c decide n c.fill.ensures called.outcome called.bytes; text = c.line-size.ensures.text ∙ call_text a.c decide n c.fill.ensures called.outcome called.bytes command_word; room = c.line-size.ensures.room }

@@ -8,9 +8,6 @@ use Rattle.journal.proofs.lending.put_delivered.Goals as goal
 pub put-space-requires : goal.put-space-requires
 put-space-requires c = omega (arith, c.put_bytes-good.ensures.ended, c.put_decimal-count.ensures.ended, decimal_most c.args.n)
 
-pub slice_bounds-put_bytes-end-2 : goal.slice_bounds-put_bytes-end-2
-slice_bounds-put_bytes-end-2 c = omega (arith, length-take c.args.n c.args.reply.now, c.requires.0)
-
 pub put_bytes-bytes-requires : goal.put_bytes-bytes-requires
 put_bytes-bytes-requires c = omega (arith, length-take c.args.n c.args.reply.now, c.requires.1, c.put_bytes-good.ensures.ended, c.put_decimal-count.ensures.ended, c.put-space.ensures.ended, decimal_most c.args.n)
 

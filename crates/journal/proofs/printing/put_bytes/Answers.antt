@@ -1,9 +1,9 @@
 -- No bytes are a dash, and others are in hex.
-use Rattle.journal.proofs.Printed.{text_none, text_some}
+use Rattle.journal.proofs.Printed.{text_none, text_so}
 use Rattle.journal.proofs.printing.put_bytes.Goals as goal
 
-pub returns-then-src-eq0 : goal.returns-then-src-eq0
-returns-then-src-eq0 c = rw (text_none c.args.src.now c.if-src-eq0.true) c.put.ensures
+pub returns-then-is_empty : goal.returns-then-is_empty
+returns-then-is_empty c = rw (text_none c.args.src.now (c.is_empty.ensures) c.if-is_empty.true) c.put.ensures
 
-pub returns : goal.returns
-returns c = rw (text_some c.args.src.now c.if-src-eq0.false) c.put_hex.ensures
+pub returns-else-is_empty : goal.returns-else-is_empty
+returns-else-is_empty c = rw (text_so c.args.src.now (c.is_empty.ensures) c.if-is_empty.false) c.put_hex.ensures

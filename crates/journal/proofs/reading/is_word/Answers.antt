@@ -1,9 +1,6 @@
--- Words of one length are compared over it.
-use borrow.Author.Tests.{eq-eqb, ne_eqb}
+-- Two words are the same where they are equal.
+use Rattle.journal.proofs.Exits.{word_is}
 use Rattle.journal.proofs.reading.is_word.Goals as goal
 
-pub returns-then-w-v : goal.returns-then-w-v
-returns-then-w-v c = rw (ne_eqb _ _ c.if-w-v.true)
-
 pub returns : goal.returns
-returns c = rw (eq-eqb _ _ c.if-w-v.false) c.same.ensures
+returns c = word_is _ _ _ c.eq.ensures

@@ -1,12 +1,15 @@
--- What is left of a line is empty, begins with `#`, or is read.
-use Rattle.journal.proofs.Exits.{read_plainly, reads_so, kept_none, kept_comment, kept_said}
+-- What is left of a line is skipped, or is read.
+use Rattle.journal.proofs.Exits.{read_plainly, ok_so, err_so, kept_none, kept_said}
 use Rattle.journal.proofs.reading.read_kept.Goals as goal
 
-pub returns-then-s-eq0 : goal.returns-then-s-eq0
-returns-then-s-eq0 c = read_plainly c.plain.ensures (λ a b. kept_none _ c.if-s-eq0.true)
+pub returns-then-is_skipped-clause-ok : goal.returns-then-is_skipped-clause-ok
+returns-then-is_skipped-clause-ok c =
+    read_plainly c.from.ensures (λ a b. kept_none c.args.s.now c.is_skipped.ensures c.if-is_skipped.true)
 
-pub returns-then-s-eq35 : goal.returns-then-s-eq35
-returns-then-s-eq35 c = read_plainly c.plain-then-s-eq35.ensures (λ a b. kept_comment _ c.if-s-eq0.false c.if-s-eq35.true)
+pub returns-clause-ok : goal.returns-clause-ok
+returns-clause-ok c =
+    ok_so c.read_statement.result c.read_statement.new.first c.read_statement.new.second (kept_said c.args.s.now c.is_skipped.ensures c.if-is_skipped.false) c.read_statement.ensures.ok
 
-pub returns : goal.returns
-returns c = reads_so (kept_said _ c.if-s-eq0.false c.if-s-eq35.false) c.read_statement.ensures
+pub returns-clause-err : goal.returns-clause-err
+returns-clause-err c =
+    err_so c.read_statement.result (kept_said c.args.s.now c.is_skipped.ensures c.if-is_skipped.false) c.read_statement.ensures.err

@@ -1,16 +1,13 @@
 -- An empty line has no CR; of any other the last byte decides.
-use Rattle.journal.proofs.Lengths.{length_shorter}
+use native.Mathlib.Omega.{arith}
 use Rattle.journal.proofs.Exits.{cr_empty, cr_dropped, cr_other}
 use Rattle.journal.proofs.reading.without_cr.Goals as goal
 
-pub returns-then-s-eq0 : goal.returns-then-s-eq0
-returns-then-s-eq0 c = cr_empty _ c.if-s-eq0.true
+pub returns-in-13 : goal.returns-in-13
+returns-in-13 c = cr_dropped _ (λ e. omega arith) (omega arith)
 
-pub slice_bounds-result-end : goal.slice_bounds-result-end
-slice_bounds-result-end c = length_shorter c.args.s.now
+pub returns-in_default : goal.returns-in_default
+returns-in_default c = cr_empty _ (omega arith)
 
-pub returns-then-s-last-eq13 : goal.returns-then-s-last-eq13
-returns-then-s-last-eq13 c = cr_dropped _ c.if-s-eq0.false c.if-s-last-eq13.true
-
-pub returns : goal.returns
-returns c = cr_other _ c.if-s-eq0.false c.if-s-last-eq13.false
+pub returns-in_default-2 : goal.returns-in_default-2
+returns-in_default-2 c = cr_other _ (λ e. omega arith) (λ e. omega arith)

@@ -1,15 +1,13 @@
 -- The ACEs of the pages that are left are added behind those so far, as long as there is room.
 use mathlib.Core.List.{◌++◌}
-use lib.ListN.{length, take}
+use lib.ListN.{take}
 use Rattle.lists.specs.Lists.{gather}
 use Rattle.lists.specs.Pages.{pages_of}
 use Rattle.manage.specs.EndState.{new_aces}
+use Rattle.manage.specs.Luacds.{luns_in}
 use Rattle.manage.proofs.Put.{Putting}
 use Rattle.manage.proofs.aces.with_new.Given as goal
 
-abbrev pub invariant-loop-rest : goal.invariant-loop-rest
-invariant-loop-rest l =
-    Putting (take l.initial.count l.initial.items ++ gather (new_aces l.luns) (pages_of l.pages)) l.luns l.items l.count l.rest
-
-abbrev pub decreases-loop-rest : goal.decreases-loop-rest
-decreases-loop-rest l = length l.rest
+abbrev pub invariant-loop-page : goal.invariant-loop-page
+invariant-loop-page l =
+    Putting (take l.initial.next.count l.initial.next.items ++ gather (new_aces (luns_in l.units)) (pages_of l.pages)) (luns_in l.units) l.next l.page-iterator

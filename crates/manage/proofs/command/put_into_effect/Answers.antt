@@ -1,23 +1,25 @@
 -- Both phases are asked of the end state, which is the one that the effects make.
-use mathlib.Core.Path.{ap, sym, ◌∙◌}
-use native.Mathlib.Omega.{arith}
+use Rattle.std.proofs.Common.{ap, sym, arith}
+use Rattle.std.specs.Prelude.{Ok, Err}
+use Rattle.std.proofs.lemmas.Result.{err_from_is_err_and}
+use mathlib.Core.Path.{◌∙◌}
+use Rattle.paper.specs.Pages.{ace_pages}
 use Rattle.paper.specs.Rows.{some_clash}
-use Rattle.paper.specs.Outcomes.{handed_back}
-use Rattle.paper.specs.declared.answers.Answer.TheVariants.{Good}
 use Rattle.manage.specs.EndState.{revoked_by, end_with}
-use Rattle.manage.proofs.Room.{sized, no_fit, fit}
+use Rattle.manage.proofs.Fits.{sized, no_fit, fit}
 use Rattle.manage.proofs.Phases.{count_granted, count_revoked, counts, fails_5, fails_6, all_pass}
 use Rattle.manage.proofs.command.put_into_effect.Goals as goal
 
-pub managed_aces-after-requires : goal.managed_aces-after-requires
-managed_aces-after-requires c =
-    let few = counts _ _ c.requires in
-    (sized few, few.few_units)
+pub aces_after-requires : goal.aces_after-requires
+aces_after-requires c = sized (counts _ _ c.requires)
 
-pub returns-then-not-after : goal.returns-then-not-after
-returns-then-not-after c =
+pub returns-in_err-acl : goal.returns-in_err-acl
+unfolding ace_pages
+returns-in_err-acl c =
     let passed = c.requires in
-    c.checked.ensures ∙ fails_5 _ _ passed (no_fit _ (sized (counts _ _ passed)) _ _ c.managed_aces-after.ensures c.if-not-after.true)
+    let p = err_from_is_err_and c.from_residual.result c.from_residual.ensures.1 in
+    let none = no_fit _ (sized (counts _ _ passed)) _ _ (sym (rw c.pages_in.ensures at c.in_err-acl.ensures)) in
+    rw (p.1, p.2) (ap Err none.1 ∙ fails_5 _ _ passed none.0)
 
 pub granted_with-granted-requires : goal.granted_with-granted-requires
 granted_with-granted-requires c = (counts _ _ c.requires).few_initiators
@@ -30,17 +32,17 @@ some_clash-requires c =
     omega (arith, granted, end, few.few_initiators)
 
 pub returns-then-some_clash : goal.returns-then-some_clash
+unfolding ace_pages
 returns-then-some_clash c =
     let passed = c.requires in
-    let fits = fit _ (sized (counts _ _ passed)) _ _ c.managed_aces-after.ensures c.if-not-after.false in
+    let fits = fit _ (sized (counts _ _ passed)) _ _ (sym (rw c.pages_in.ensures at c.in_ok-acl.ensures)) in
     let is = c.revoked_by-end.ensures ∙ ap (revoked_by _) c.granted_with-granted.ensures ∙ ap (end_with _ _) fits.is in
-    c.checked-then-some_clash.ensures ∙ fails_6 _ _ passed fits.fits (ap some_clash (sym is) ∙ sym c.some_clash.ensures ∙ c.if-some_clash.true)
+    fails_6 _ _ passed fits.fits (ap some_clash (sym is) ∙ sym c.some_clash.ensures ∙ c.if-some_clash.true)
 
 pub returns : goal.returns
+unfolding ace_pages
 returns c =
     let passed = c.requires in
-    let fits = fit _ (sized (counts _ _ passed)) _ _ c.managed_aces-after.ensures c.if-not-after.false in
+    let fits = fit _ (sized (counts _ _ passed)) _ _ (sym (rw c.pages_in.ensures at c.in_ok-acl.ensures)) in
     let is = c.revoked_by-end.ensures ∙ ap (revoked_by _) c.granted_with-granted.ensures ∙ ap (end_with _ _) fits.is in
-    c.handed_back.ensures
-    ∙ ap (λ d. handed_back d Good 0) is
-    ∙ all_pass _ _ passed fits.fits (ap some_clash (sym is) ∙ sym c.some_clash.ensures ∙ c.if-some_clash.false)
+    ap Ok is ∙ all_pass _ _ passed fits.fits (ap some_clash (sym is) ∙ sym c.some_clash.ensures ∙ c.if-some_clash.false)

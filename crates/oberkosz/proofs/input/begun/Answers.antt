@@ -7,7 +7,7 @@ pub returns-clause-at : goal.returns-clause-at
 returns-clause-at c =
     λ task line standing ended.
     record {
-      state = ap (λ s. s.state) c.setup-started.ensures ∙ begun_so;
+      state = ap (λ s. s.state) c.setup.ensures ∙ begun_so;
       number = refl;
       kept = refl;
       grounds = λ audit going. refl;

@@ -12,7 +12,7 @@ returns-then-not-taken-clause-fed g c =
 pub returns-clause-sound : goal.returns-clause-sound
 returns-clause-sound g c =
     let done = c.step-done.ensures in
-    let read = some_read _ _ _ _ _ _ c.take_in-taken.ensures c.requires.in_bounds.2 in
+    let read = some_read _ _ _ _ _ _ c.take_in-taken.ensures c.requires.1 in
     (record { used_fits = omega (arith, done.place.1); within = done.place.2 }, omega (arith, done.place.0), read.0, read.1)
 
 pub returns-clause-fed : goal.returns-clause-fed

@@ -1,20 +1,10 @@
-use mathlib.Core.Path.{refl, sym, ◌∙◌}
-use native.Mathlib.Omega.{arith}
-use Rattle.lists.proofs.Places.{any_step, any_stop, any_end}
-use Rattle.pages.proofs.Descriptors.{descriptors_next, descriptors_end}
+-- Each descriptor of the run is asked.
+use Rattle.std.proofs.Common.{rules}
+use Rattle.std.proofs.lemmas.Iterator.Consumers.{YieldsList-from_rest}
+use Rattle.std.proofs.lemmas.Iterator.Search.{any_from_yields_List}
+use borrow.Author.Tests.{tests}
+use Rattle.paper.specs.Pages.{bad_place}
 use Rattle.pages.proofs.places.bad_place_in.Goals as goal
 
-pub loop-k-init : goal.loop-k-init
-loop-k-init c = refl
-
-pub descriptor_at-requires : goal.descriptor_at-requires
-descriptor_at-requires c = omega arith
-
-pub returns-then-bad_place : goal.returns-then-bad_place
-returns-then-bad_place c = sym (c.loop-k.invariant ∙ any_stop _ (descriptors_next _ c.loop-k-test.true c.descriptor_at.ensures) c.bad_place.ensures c.if-bad_place.true)
-
-pub loop-k-preserved : goal.loop-k-preserved
-loop-k-preserved c = c.loop-k.invariant ∙ any_step _ (descriptors_next _ c.loop-k-test.true c.descriptor_at.ensures) c.bad_place.ensures c.if-bad_place.false
-
 pub returns : goal.returns
-returns c = sym (c.loop-k.invariant ∙ any_end (descriptors_end _ c.loop-k-test.false) _)
+returns c = any_from_yields_List (bad_place c.args.luns.now) c.any.new.self _ _ c.any.ensures.ran (YieldsList-from_rest _ c.descriptors_in.ensures) (λ x b q k. search (rules, tests))

@@ -11,12 +11,12 @@ use Rattle.report.proofs.paged.put_identifier.Goals as goal
 pub put_bytes-requires : goal.put_bytes-requires
 unfolding identifier_bytes
 put_bytes-requires c =
-    let many = ap length c.kept_id-bytes.ensures ∙ length_kept c.args.a.kind c.args.a.id in
+    let many = ap length c.kept_id-bytes.ensures ∙ length_kept c.args.a.now.kind c.args.a.now.id in
     omega (arith, many, simp bytes_length at c.put_be16-d.ensures.ended, c.put-c.ensures.ended, c.put-b.ensures.ended)
 
 pub returns : goal.returns
 unfolding identifier_bytes
 returns c =
     then c.put-b.ensures
-    (then (rw c.type_byte.ensures at c.put-c.ensures)
+    (then (rw c.from.ensures at c.put-c.ensures)
     (then c.put_be16-d.ensures (rw c.kept_id-bytes.ensures at c.put_bytes.ensures)))

@@ -14,7 +14,7 @@ pub returns-then-reply-limit : goal.returns-then-reply-limit
 returns-then-reply-limit c =
     let z = c.args.c in
     let both = too_short z (take c.args.allocation (report_bytes z)) c.args.reply.now
-    (omega (arith, length-take c.args.allocation (report_bytes z), length_header z, c.pages_size-follows.ensures.0, c.capped-limit.ensures, c.if-reply-limit.true))
+    (omega (arith, length-take c.args.allocation (report_bytes z), length_header z, c.pages_size-follows.ensures.0, c.min-limit.ensures, c.if-reply-limit.true))
     c.handed_back.ensures in record { outcome = both.0; bytes = both.1 }
 
 pub put_pages-requires : goal.put_pages-requires
@@ -24,8 +24,8 @@ pub returns : goal.returns
 returns c =
     let z = c.args.c in
     let bytes = take c.args.allocation (report_bytes z) in
-    let whole : c.capped-limit.result ≡ length bytes = omega (arith, length-take c.args.allocation (report_bytes z), length_header z, c.pages_size-follows.ensures.0, c.capped-limit.ensures) in
+    let whole : c.min-limit.result ≡ length bytes = omega (arith, length-take c.args.allocation (report_bytes z), length_header z, c.pages_size-follows.ensures.0, c.min-limit.ensures) in
     let both = made z bytes c.args.reply.now
     (omega (arith, whole, c.if-reply-limit.false))
     (rw whole at c.handed_back-2.ensures)
-    (report_whole z c.args.allocation (omega (arith, c.pages_size-follows.ensures.0)) c.capped-limit.ensures (then c.put_header-at.ensures c.put_pages.ensures)) in record { outcome = both.0; bytes = both.1 }
+    (report_whole z c.args.allocation (omega (arith, c.pages_size-follows.ensures.0)) c.min-limit.ensures (then c.put_header-at.ensures c.put_pages.ensures)) in record { outcome = both.0; bytes = both.1 }

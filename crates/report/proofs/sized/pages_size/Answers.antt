@@ -1,23 +1,15 @@
 -- The ACEs' pages and the proxy page are all pages.
-use native.Mathlib.Omega.{arith}
+use Rattle.std.proofs.Common.{arith}
 use Rattle.paper.specs.Tables.{units_of}
-use Rattle.report.proofs.PageSizes.{counts_of, all_pages}
+use Rattle.report.proofs.PageSizes.{all_pages}
 use Rattle.report.proofs.sized.pages_size.Goals as goal
-
-pub aces_size-requires : goal.aces_size-requires
-aces_size-requires c =
-    let counts = counts_of c.args.c c.requires in
-    (counts.few_aces, counts.luacds_few)
-
-pub proxy_size-requires : goal.proxy_size-requires
-proxy_size-requires c = (counts_of c.args.c c.requires).few_tokens
 
 pub overflow_add-result : goal.overflow_add-result
 overflow_add-result c =
-    let luns = units_of c.args.c in
-    omega (arith, (all_pages c.args.c c.requires (c.aces_size.ensures luns) (c.proxy_size.ensures luns)).1)
+    let luns = units_of c.args.c.now in
+    omega (arith, (all_pages c.args.c.now c.requires (rw c.in_use.ensures.in_use at (c.aces_size.ensures luns)) (rw c.in_use-2.ensures.in_use at (c.proxy_size.ensures luns))).1)
 
 pub returns : goal.returns
 returns c =
-    let luns = units_of c.args.c in
-    all_pages c.args.c c.requires (c.aces_size.ensures luns) (c.proxy_size.ensures luns)
+    let luns = units_of c.args.c.now in
+    all_pages c.args.c.now c.requires (rw c.in_use.ensures.in_use at (c.aces_size.ensures luns)) (rw c.in_use-2.ensures.in_use at (c.proxy_size.ensures luns))

@@ -1,36 +1,28 @@
 -- While on, the grounds are appended in the order of the definition; while off, the units are.
-use mathlib.Core.Path.{ap}
-use native.Mathlib.Omega.{arith}
+use Rattle.std.proofs.Common.{arith, ap}
 use Rattle.paper.specs.Rows.{proxy_rows, open_rows}
-use Rattle.rows.proofs.Appending.{join_both, joined_table}
 use Rattle.rows.proofs.Initiator.{rows_by}
+use Rattle.rows.proofs.Appending.{join_both, joined_table}
 use Rattle.rows.proofs.building.rows_of.Goals as goal
 
-pub with_transport-transport-requires : goal.with_transport-transport-requires
-unfolding proxy_rows open_rows
-with_transport-transport-requires c = (omega (arith, ap (λ r. r.count) c.no_rows-none.ensures), c.requires)
+pub with_transport-requires : goal.with_transport-requires
+with_transport-requires c = (omega (arith, ap (λ r. r.count) c.no_rows-rows.ensures), c.requires)
 
-pub with_access-access-requires : goal.with_access-access-requires
-unfolding proxy_rows open_rows
-with_access-access-requires c = (
-  omega (arith, ap (λ r. r.count) c.no_rows-none.ensures, c.with_transport-transport.ensures.few),
-  c.requires,
-)
+pub with_access-requires : goal.with_access-requires
+with_access-requires c = (omega (arith, ap (λ r. r.count) c.no_rows-rows.ensures, c.with_transport.ensures.few), c.requires)
 
 pub with_proxies-requires : goal.with_proxies-requires
-unfolding proxy_rows open_rows
-with_proxies-requires c = omega (arith, ap (λ r. r.count) c.no_rows-none.ensures, c.with_transport-transport.ensures.few, c.with_access-access.ensures.few)
+with_proxies-requires c = (omega (arith, ap (λ r. r.count) c.no_rows-rows.ensures, c.with_transport.ensures.few, c.with_access.ensures.few), c.in_use-then-c.ensures.few)
 
 pub returns-then-c : goal.returns-then-c
 unfolding proxy_rows open_rows
 returns-then-c c =
-    rw (rows_by c.args.c c.args.i c.if-c.true)
-    (joined_table c.no_rows-none.ensures (join_both c.with_transport-transport.ensures (join_both c.with_access-access.ensures c.with_proxies.ensures)) (omega arith))
+    rw (rows_by c.args.c.now c.args.i c.if-c.true, ← c.in_use.ensures.in_use, ← c.in_use-then-c.ensures.in_use)
+    (joined_table c.no_rows-rows.ensures (join_both c.with_transport.ensures (join_both c.with_access.ensures c.with_proxies.ensures)) (omega arith))
 
 pub with_units-requires : goal.with_units-requires
-unfolding proxy_rows open_rows
-with_units-requires c = omega (arith, ap (λ r. r.count) c.no_rows-none.ensures)
+with_units-requires c = (omega (arith, ap (λ r. r.count) c.no_rows-rows.ensures), c.in_use-else-c.ensures.few)
 
-pub returns : goal.returns
+pub returns-else-c : goal.returns-else-c
 unfolding proxy_rows open_rows
-returns c = rw (rows_by c.args.c c.args.i c.if-c.false) (joined_table c.no_rows-none.ensures c.with_units.ensures (omega arith))
+returns-else-c c = rw (rows_by c.args.c.now c.args.i c.if-c.false, ← c.in_use-else-c.ensures.in_use) (joined_table c.no_rows-rows.ensures c.with_units.ensures (omega arith))

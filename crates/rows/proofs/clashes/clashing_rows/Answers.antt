@@ -14,5 +14,5 @@ returns-then-is_taw c =
     c.is_taw-then-is_taw.ensures
     ∙ sym (one_unit _ _ c.if-a-b.false c.if-a-b-2.false ∙ rw (sym c.is_taw.ensures ∙ c.if-is_taw.true))
 
-pub returns : goal.returns
-returns c = sym (one_unit _ _ c.if-a-b.false c.if-a-b-2.false ∙ rw (sym c.is_taw.ensures ∙ c.if-is_taw.false))
+pub returns-else-is_taw : goal.returns-else-is_taw
+returns-else-is_taw c = c.if-is_taw.false ∙ sym (one_unit _ _ c.if-a-b.false c.if-a-b-2.false ∙ rw (sym c.is_taw.ensures ∙ c.if-is_taw.false))

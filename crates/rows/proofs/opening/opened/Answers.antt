@@ -1,13 +1,15 @@
 -- The row that opens is looked for first, then W.
-use mathlib.Core.Path.{sym, ◌∙◌}
-use Rattle.rows.proofs.Search.{opens_found, opens_not}
+use Rattle.paper.specs.Outcomes.{opens}
 use Rattle.rows.proofs.opening.opened.Goals as goal
 
-pub returns-then-pending_has : goal.returns-then-pending_has
-returns-then-pending_has c = sym (opens_not _ _ (sym c.row_with.ensures ∙ c.in_default.is) ∙ rw (sym c.pending_has.ensures ∙ c.if-pending_has.true))
+pub returns-in-Some : goal.returns-in-Some
+unfolding opens
+returns-in-Some c = rw (← c.opening_row.ensures, c.in-Some.is)
 
-pub returns-in_default : goal.returns-in_default
-returns-in_default c = sym (opens_not _ _ (sym c.row_with.ensures ∙ c.in_default.is) ∙ rw (sym c.pending_has.ensures ∙ c.if-pending_has.false))
+pub returns-then-pending_has : goal.returns-then-pending_has
+unfolding opens
+returns-then-pending_has c = rw (← c.opening_row.ensures, c.in_default.is, ← c.pending_has.ensures, c.if-pending_has.true)
 
 pub returns : goal.returns
-returns c = sym (opens_found _ _ (sym c.row_with.ensures ∙ c.in-Found.is))
+unfolding opens
+returns c = rw (← c.opening_row.ensures, c.in_default.is, ← c.pending_has.ensures, c.if-pending_has.false)

@@ -6,4 +6,4 @@ use Rattle.tables.proofs.effects.assigned.Goals as goal
 
 pub returns : goal.returns
 unfolding applied
-returns c = c.with_proxies.ensures ∙ ap (with_proxy_table c.args.c) (c.proxy_added.ensures ∙ rw c.lun_head.ensures)
+returns c = c.with_proxies.ensures ∙ ap (with_proxy_table c.args.c) (c.proxy_added-standing.ensures ∙ rw c.lun_head.ensures)

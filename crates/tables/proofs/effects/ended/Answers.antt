@@ -6,4 +6,4 @@ use Rattle.tables.proofs.effects.ended.Goals as goal
 
 pub returns : goal.returns
 unfolding applied
-returns c = c.with_proxies.ensures ∙ ap₂ with_proxy_table (c.with_tokens.ensures ∙ ap (with_token_table c.args.c) c.tokens_after-live.ensures) c.proxies_after-standing.ensures
+returns c = c.with_proxies.ensures ∙ ap₂ with_proxy_table (c.with_tokens.ensures ∙ ap (with_token_table c.args.c) c.tokens_after-live.ensures) (rw c.in_use.ensures.in_use at c.proxies_after-standing.ensures)

@@ -1,9 +1,0 @@
--- A place below 32 is in every table.
-use Rattle.std.proofs.Common.{◌-◌, ◌≤◌}
-use Rattle.bench.proofs.states.state_of.Given as goal
-
-abbrev pub invariant-loop-i : goal.invariant-loop-i
-invariant-loop-i l = l.i ≤ 32
-
-abbrev pub decreases-loop-i : goal.decreases-loop-i
-decreases-loop-i l = 32 - l.i

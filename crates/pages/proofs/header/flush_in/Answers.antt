@@ -1,7 +1,0 @@
--- FLUSH is bit 7 of byte 21.
-use mathlib.Core.Path.{ap}
-use Rattle.paper.specs.Pages.{top_bit}
-use Rattle.pages.proofs.header.flush_in.Goals as goal
-
-pub returns : goal.returns
-returns c = ap top_bit c.byte.ensures

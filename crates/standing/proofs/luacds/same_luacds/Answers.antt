@@ -1,9 +1,0 @@
--- One LUN decides, and else the units do.
-use borrow.Author.Tests.{eq-eqb, ne_eqb}
-use Rattle.standing.proofs.luacds.same_luacds.Goals as goal
-
-pub returns-then-p-q : goal.returns-then-p-q
-returns-then-p-q c = rw (eq-eqb _ _ c.if-p-q.true)
-
-pub returns : goal.returns
-returns c = rw (ne_eqb _ _ c.if-p-q.false)
