@@ -7,7 +7,7 @@ use native.Mathlib.Omega.{arith}
 use native.Mathlib.Nat.{mul_comm, mul-suc, div-mul-le_self, mul-div_cancel_left, add-div_left, div-eq_of_lt, div-le_self}
 use native.Mathlib.Numerals.{suc-eq-add-one}
 use denote.Ref.{Bor}
-use lib.ListN.{length, drop, length-append, length-drop}
+use lib.ListN.{length, get_or, take, drop, length-append, length-drop}
 use lib.Seq.{length-take-le, take_at, drop_at}
 use Rattle.std.specs.Prelude.{Some, None}
 use Rattle.std.specs.Iterator.{AlwaysYields}
@@ -16,7 +16,7 @@ use Rattle.std.specs.declared.slice.ChunksExact.{ChunksExact}
 use Rattle.std.proofs.lemmas.Iterator.{YieldsList}
 use Rattle.lists.specs.Lists.{◌∈◌, gather, parts}
 use Rattle.lists.proofs.Members.{in_cons}
-use Rattle.lists.proofs.Parts.{length_parts, length_gather, parts_gather}
+use Rattle.lists.proofs.Parts.{length_parts, get_or_parts, length_gather, parts_gather}
 use Rattle.audit.specs.Ledger.{runs_of}
 
 -- each part has the size, where there are so many elements
@@ -33,6 +33,13 @@ part_size size (suc n) s h m =
 pub run_size : (size : ℕ) (s : List ℕ) {x : List ℕ} → x ∈ runs_of size s → length x ≡ size
 run_size size s m =
     part_size size (length s / size) s (rw (mul_comm size (length s / size)) (div-mul-le_self (length s) size)) m
+
+-- the run at a place
+abbrev pub run_at : ℕ → List ℕ → ℕ → List ℕ
+run_at size s k = take size (drop (k * size) s)
+
+pub run_at_lem : (size : ℕ) (s : List ℕ) {k : ℕ} → k < length s / size → get_or (runs_of size s) k [] ≡ run_at size s k
+run_at_lem size s {k} h = get_or_parts size (length s / size) s k [] h ∙ rw (mul_comm k size)
 
 pub few_runs : (size : ℕ) (s : List ℕ) → length (runs_of size s) ≤ length s
 few_runs size s = omega (arith, length_parts size (length s / size) s, div-le_self (length s) size)

@@ -7,7 +7,6 @@ use mathlib.Core.Bool.{Bool, true, false, cond}
 use native.Mathlib.Omega.{arith}
 use native.Mathlib.Nat.{add-zero, zero-add}
 use native.Mathlib.Numerals.{add-one}
-use Rattle.std.proofs.lemmas.List.Elements.{filter-append}
 use lib.Dec.{eqb, ltb}
 use lib.ListN.{length, take, get_or, length-append, length-take}
 use Rattle.lists.specs.Lists.{keep, count, below}
@@ -22,22 +21,6 @@ use Rattle.audit.specs.Sentence.{belongs, and_text, no_initiator, one_initiator,
 -- ---- the numbers below a size that pass a test: no more than the size
 pub keep_few : (p : ℕ → Bool) (size : ℕ) → length (keep p (below size)) ≤ size
 keep_few p size = omega (arith, length_keep p (below size), length_count 0 size)
-
--- one number more
-count_last : (k n : ℕ) → count k (suc n) ≡ count k n ++ ((k + n) ∷ [])
-unfolding count
-count_last k zero = ap (λ m. m ∷ []) (sym (add-zero k))
-count_last k (suc n) = ap (λ l. k ∷ l) (count_last (suc k) n ∙ ap (λ m. count (suc k) n ++ (m ∷ [])) (omega arith))
-
-module _ (p : ℕ → Bool) (i : ℕ) where
-  kept_last : keep p (below (i + 1)) ≡ keep p (below i) ++ keep p (i ∷ [])
-  kept_last = ap (λ m. keep p (below m)) (add-one i) ∙ ap (keep p) (count_last 0 i ∙ ap (λ m. below i ++ (m ∷ [])) (zero-add i)) ∙ filter-append p (below i) (i ∷ [])
-
-  pub kept_more : p i ≡ true → keep p (below (i + 1)) ≡ keep p (below i) ++ (i ∷ [])
-  kept_more e = kept_last ∙ rw e
-
-  pub kept_same : p i ≡ false → keep p (below (i + 1)) ≡ keep p (below i)
-  kept_same e = kept_last ∙ rw e (append-nil (keep p (below i)))
 
 -- ---- a name, and what comes before it
 abbrev pub name_text : List ℕ → ℕ → List ℕ

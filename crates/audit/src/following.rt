@@ -4,7 +4,8 @@ ghost use Rattle.journal.specs.Statements.{read_line};
 ghost use Rattle.audit.specs.Following.{kept_in, fits, changed_by, followed};
 ghost use Rattle.audit.specs.Room.{Within};
 
-use crate::ledger::{Deed, Grounds};
+use crate::ledger::Deed;
+pub use crate::ledger::Grounds;
 use crate::{deeds, ledger};
 use paper::state::Coordinator;
 

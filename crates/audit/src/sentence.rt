@@ -1,54 +1,23 @@
 // The first line of an audit, and its answer.
 ghost use Rattle.std.specs.Prelude.{◌≡◌, ℕ, ◌+◌, ◌<◌, ◌≤◌, List, [], ◌∷◌, ◌++◌, length, take};
 ghost use Rattle.lists.specs.Lists.{any, keep, below};
+ghost use Rattle.lists.specs.Tables.{filled};
 ghost use Rattle.wire.specs.Write.{Wrote};
 ghost use Rattle.audit.specs.Ledger.{runs_of};
 ghost use Rattle.audit.specs.Sentence.{is_of, grounds_of, belongs, before, joined, named, openers, could_part, pending_text, wait_part, answer_text, place_text, past_text, unit_part, lines_part, first_text};
 
 use crate::cells::{Asked, Audited};
 use journal::printing;
-use std::marker::Model;
+use lists::Table;
 
-// Initiators, in ascending order: 16 at most.
-// Stays: there is no heap, and how many there are is known before the first is written.
-#[derive(Drop)]
-struct Names {
-    items: [u8; 16],
-    count: usize,
-}
+// Initiators, in ascending order.
+pub type Names = Table<u8, 16>;
 
-impl Model for Names {
-    ghost Value = { List ℕ };
-
-    ghost view = { λ s. take s.count s.items };
-
-    ghost invariant = { λ s. s.count ≤ 16 };
-}
-
-impl Names {
-    fn new() -> Names
-        ensures { result ≡ [] }
-    {
-        Names {
-            items: [0; 16],
-            count: 0,
-        }
-    }
-
-    fn push(&mut self, i: u8)
-        requires { length self.old < 16 }
-        ensures { self.new ≡ self.old ++ (i ∷ []) }
-    {
-        self.items[self.count] = i;
-        self.count += 1;
-    }
-
-    fn as_slice(&self) -> &[u8]
-        ensures names { result.now ≡ self.now }
-        ensures few { length self.now ≤ 16 }
-    {
-        &self.items[..self.count]
-    }
+// All that there can be.
+fn initiators() -> [u8; 16]
+    ensures { result ≡ below 16 }
+{
+    [0, 1, 2, 3, 4, 5, 6, 7, 8, 9, 10, 11, 12, 13, 14, 15]
 }
 
 // Whether a ground shown is an initiator's, pending or not.
@@ -89,15 +58,9 @@ impl Audited<'_> {
     }
 
     fn names(&self, waits: bool) -> Names
-        ensures { result ≡ keep (belongs self.now.asked (grounds_of self.now.ended.now self.now.standing.now) waits) (below 16) }
+        ensures { result ≡ filled 0 16 (keep (belongs self.now.asked (grounds_of self.now.ended.now self.now.standing.now) waits) (below 16)) }
     {
-        let mut names = Names::new();
-        for i in 0..16 {
-            if self.belongs(i, waits) {
-                names.push(i);
-            }
-        }
-        names
+        lists::kept(0, &initiators(), |i| self.belongs(*i, waits))
     }
 }
 
@@ -202,9 +165,9 @@ pub fn put_answer(text: &mut [u8], unit: u8, audited: &Audited) -> usize
 {
     let limit = text.len();
     let could = audited.names(false);
-    let first = put_could(text, 0, limit, unit, could.as_slice());
+    let first = put_could(text, 0, limit, unit, could.in_use());
     let waited = audited.names(true);
-    let told = put_waits(text, first, limit, waited.as_slice());
+    let told = put_waits(text, first, limit, waited.in_use());
     wire::put(text, told, limit, b'\n')
 }
 

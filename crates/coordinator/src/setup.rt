@@ -4,7 +4,6 @@
 ghost use Rattle.std.specs.Prelude.{◌≡◌, map, true, ◌≤◌, ◌%◌, length};
 ghost use Rattle.lists.specs.Lists.{all};
 ghost use Rattle.wire.specs.Lun.{lun_form, head_of};
-ghost use Rattle.paper.specs.Answers.{values_of};
 ghost use Rattle.paper.specs.Setup.{ids_in, luns_in, setup_in};
 ghost use Rattle.paper.specs.Tables.{initiator_table, unit_table};
 ghost use Rattle.paper.specs.Fresh.{nothing, fresh, started_with, started};
@@ -73,25 +72,16 @@ fn fresh_with(ids: &[u8], luns: &[u8]) -> Coordinator
     setters::with_units(listed, units_of(luns))
 }
 
-// What is started, with the values of the answer.
-fn answered(state: Coordinator, answer: Answer) -> Started
-    ensures { result ≡ record { state = state; answer = answer; values = values_of answer } }
-{
-    Started {
-        state,
-        answer,
-        values: answers::values_of(answer),
-    }
-}
-
 // "a coordinator without initiators and units comes back"
 fn refused() -> Started
     ensures { result ≡ started_with nothing (Refused BadSetup) }
 {
-    answered(
-        state::fresh_coordinator(),
-        Answer::Refused(Refusal::BadSetup),
-    )
+    let answer = Answer::Refused(Refusal::BadSetup);
+    Started {
+        state: state::fresh_coordinator(),
+        answer,
+        values: answers::values_of(answer),
+    }
 }
 
 // Starts a coordinator from the TransportIDs and the default LUNs that are listed.
@@ -106,5 +96,9 @@ pub fn setup(ids: &[u8], luns: &[u8]) -> Started
     if !rules::setup_kept(&c) {
         return refused();
     }
-    answered(c, Answer::Good)
+    Started {
+        state: c,
+        answer: Answer::Good,
+        values: answers::values_of(Answer::Good),
+    }
 }

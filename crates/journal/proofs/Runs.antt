@@ -51,6 +51,9 @@ unfolding skip_spaces
 skips [] = refl
 skips (b ∷ s) = split (is_space b) (λ e. rw (e, one_add) (skips s)) (λ e. rw e)
 
+pub spaces_fit : (s : List ℕ) {n : ℕ} → n ≡ length (take_while is_space s) → n ≤ length s
+spaces_fit s e = omega (arith, e ∙ run_length is_space s, prefix_fits is_space s)
+
 pub spaces_passed : (s : List ℕ) {n : ℕ} → n ≡ length (take_while is_space s) → drop n s ≡ skip_spaces s
 spaces_passed s e = ap (λ n. drop n s) (e ∙ run_length is_space s) ∙ skips s
 

@@ -52,7 +52,7 @@ pub fn is_bytes(w: &[u8]) -> bool
 
 // How many bytes a word of bytes stands for.
 #[tactic(auto, using(crate::proofs::Digits::hex_length), unfolding(crate::specs::Kinds::bytes_of))]
-fn bytes_size(w: &[u8]) -> usize
+pub fn bytes_size(w: &[u8]) -> usize
     requires { is_bytes w.now ≡ true }
     ensures { result ≡ length (bytes_of w.now) }
 {
@@ -143,7 +143,7 @@ pub fn buffer(w: &[u8]) -> Option<usize>
 
 // "exactly 16 hex digits"
 #[tactic(auto, unfolding(crate::specs::Kinds::is_digits))]
-fn is_digits(w: &[u8]) -> bool
+pub fn is_digits(w: &[u8]) -> bool
     ensures { result ≡ is_digits w.now }
 {
     w.len() == 16 && all_hex(w)
@@ -151,13 +151,18 @@ fn is_digits(w: &[u8]) -> bool
 
 // The number that 16 hex digits make.
 #[tactic(auto, using(crate::proofs::Digits::be_std, crate::proofs::Digits::digits_given, crate::proofs::Digits::digits_read, crate::proofs::Digits::hex_length))]
-pub fn digits(w: &[u8]) -> Option<u64>
-    ensures { result ≡ then_some (is_digits w.now) (digits_of w.now) }
+pub fn digits(w: &[u8]) -> u64
+    requires { is_digits w.now ≡ true }
+    ensures { result ≡ digits_of w.now }
 {
-    if !is_digits(w) {
-        return None;
-    }
     let mut bytes = [0; 8];
     put_pairs(w, &mut bytes);
-    Some(u64::from_be_bytes(bytes))
+    u64::from_be_bytes(bytes)
+}
+
+// The number that a word of 16 hex digits makes.
+pub fn digits_word(w: &[u8]) -> Option<u64>
+    ensures { result ≡ then_some (is_digits w.now) (digits_of w.now) }
+{
+    is_digits(w).then(|| digits(w))
 }

@@ -49,7 +49,7 @@ fn read_route(s: &[u8]) -> Result<Parsed, Fault>
     let (word, rest) = words::next(s);
     let i = needs(kinds::number(word), 2, Kind::Number)?;
     let (word, rest) = words::next(rest);
-    let lun = needs(kinds::digits(word), 3, Kind::Digits)?;
+    let lun = needs(kinds::digits_word(word), 3, Kind::Digits)?;
     ends(rest, 4)?;
     Ok(Parsed::Route(i, lun))
 }
@@ -88,7 +88,7 @@ fn read_lent(i: u64, s: &[u8]) -> Result<Parsed, Fault>
     ensures err { IfErr result (λ f. (a b : List ℕ) → expected f.word f.expected ≡ read_lent i a b s.now) }
 {
     let (word, rest) = words::next(s);
-    let random = needs(kinds::digits(word), 5, Kind::Digits)?;
+    let random = needs(kinds::digits_word(word), 5, Kind::Digits)?;
     let (word, rest) = words::next(rest);
     let n = needs(kinds::buffer(word), 6, Kind::Buffer)?;
     ends(rest, 7)?;

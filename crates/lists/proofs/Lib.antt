@@ -6,6 +6,7 @@ pub mod Order
 pub mod Pages
 pub mod Parts
 pub mod Places
+pub mod Rebuild
 pub mod Sorting
 pub mod Sums
 pub mod Tables

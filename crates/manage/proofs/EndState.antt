@@ -32,7 +32,7 @@ applied_append c [] fs = refl
 applied_append c (e ∷ es) fs = applied_append (applied c e) es fs
 
 -- ---- a page 00h removes exactly if it has no descriptor: the last one always stands
-length_descriptors : (run : List ℕ) → length (descriptors_in run) ≡ length run / 20
+pub length_descriptors : (run : List ℕ) → length (descriptors_in run) ≡ length run / 20
 unfolding descriptors_in
 length_descriptors run = simp (length-map, length_parts)
 

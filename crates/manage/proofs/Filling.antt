@@ -1,24 +1,20 @@
 -- A table that is filled from a list, entry by entry, as long as it has room: what it has, and what is left, are together the list.
 use Prim.Native.Nat.{ℕ, ◌+◌, ◌≤◌, ◌<◌}
-use mathlib.Core.Path.{◌≡◌, refl, ap, sym, ◌∙◌}
+use mathlib.Core.Path.{◌≡◌, ap, sym, ◌∙◌}
 use mathlib.Core.List.{List, [], ◌∷◌, ◌++◌, append_assoc, append-nil}
 use mathlib.Core.Bool.{true, false}
 use native.Mathlib.Omega.{arith}
-use lib.ListN.{length, set, replicate, length-append}
+use lib.ListN.{length, set, length-append}
 use lib.Dec.{ltb}
 use borrow.Author.Tests.{lt-ltb, le-ltb}
 use Rattle.lists.specs.Tables.{filled}
 use Rattle.lists.specs.declared.Table.{Table}
-use Rattle.lists.proofs.Tables.{Built, built_none, built_more}
+use Rattle.lists.proofs.Tables.{Built, built_more}
 
 pub record Filling {A : Type 0} {size : ℕ} (blank : A) (target sofar rest : List A) (t : Table A size) : Type 0 where
   pub built : Built blank size sofar t.items t.count
   pub few : t.count ≤ size
   pub whole : target ≡ sofar ++ rest
-
-pub fill_none : {A : Type 0} {size : ℕ} (blank : A) (target : List A) → Filling {size = size} blank target [] target (record { count = 0; items = replicate size blank })
-fill_none {size = size} blank target =
-    record { built = built_none blank size; few = omega arith; whole = refl }
 
 module _ {A : Type 0} {size : ℕ} {blank : A} {target sofar rest : List A} {t : Table A size} (s : Filling blank target sofar rest t) where
   -- the next entry has room

@@ -1,19 +1,21 @@
--- Which descriptors of a run stand, put into a table as long as it has room, and the unit of each.
+-- Which descriptors of a run stand, counted and put into an array as long as it has room, and the unit of each.
 use Prim.Native.Nat.{ℕ, ◌+◌, ◌≤◌, ◌<◌}
-use mathlib.Core.Path.{◌≡◌, refl, ap, sym}
-use mathlib.Core.List.{List, [], ◌∷◌, map}
+use mathlib.Core.Path.{◌≡◌, refl, ap, sym, ◌∙◌}
+use mathlib.Core.List.{List, [], ◌∷◌, ◌++◌, map, append_assoc, append-nil}
 use mathlib.Core.Bool.{Bool, true, false, cond}
 use native.Mathlib.Omega.{arith}
-use lib.ListN.{length, set, replicate}
+use lib.ListN.{length, replicate, length-append}
 use lib.Dec.{ltb}
-use borrow.Author.Tests.{ltb-false}
+use borrow.Author.Tests.{ltb-true, ltb-false, lt-ltb, le-ltb}
 use Rattle.std.specs.Prelude.{Some, None, Result, Ok, Err}
 use Rattle.std.specs.List.{position_or_len}
 use Rattle.std.specs.Option.{unwrap_or}
+use Rattle.std.proofs.lemmas.List.{take_all, take-append-le}
 use Rattle.std.proofs.lemmas.List.Recursion.{is_position_or_len}
 use Rattle.lists.specs.Lists.{any, place_of}
 use Rattle.lists.specs.declared.Table.{Table}
 use Rattle.lists.proofs.Tests.{split}
+use Rattle.lists.proofs.Tables.{pad_more}
 use Rattle.lists.proofs.Members.{place_within}
 use Rattle.paper.specs.Tables.{no_luacd}
 use Rattle.paper.specs.Pages.{descriptors_in, overrules, not_overruled, luacd_of}
@@ -21,43 +23,85 @@ use Rattle.paper.specs.declared.state.Luacd.{Luacd}
 use Rattle.paper.specs.declared.state.Descriptor.{Descriptor}
 use Rattle.paper.specs.declared.answers.Condition.{Condition}
 use Rattle.paper.specs.declared.answers.Condition.TheVariants.{NoRoom}
-use Rattle.manage.specs.Luacds.{luacds_in, listed_in}
-use Rattle.manage.proofs.Filling.{Filling, fill_none, fill_more, fill_skip, fill_full, fill_fits, fill_end}
+use Rattle.manage.specs.Luacds.{luacds_in, filled_with, joined_to, listed_in}
+use Rattle.manage.specs.declared.luacds.Filled.{Filled}
+use Rattle.manage.proofs.EndState.{length_descriptors}
 
--- ---- descriptor after descriptor: the LUACDs so far, and those of the descriptors that are left, are together the target
-pub record Standing (target : List Luacd) (luns : List ℕ) (t : Table Luacd 16) (ds : List Descriptor) : Type 0 where
+-- ---- the first 16, and how many there are
+filled_more : (ls : List Luacd) (p : Luacd) → joined_to (filled_with ls) p ≡ filled_with (ls ++ (p ∷ []))
+unfolding filled_with joined_to
+filled_more ls p =
+    let one : length (ls ++ (p ∷ [])) ≡ length ls + 1 = length-append ls (p ∷ []) in
+    split
+    (ltb (length ls) 16)
+    (λ e.
+    let room = ltb-true (length ls) 16 e in
+    rw (e, take_all 16 ls (omega arith), take_all 16 (ls ++ (p ∷ [])) (omega arith), ← one)
+    (ap (λ luacds. record { luacds = luacds; count = length (ls ++ (p ∷ [])) }) (pad_more no_luacd 16 ls p room)))
+    (λ e. rw (e, take-append-le 16 ls (p ∷ []) (ltb-false (length ls) 16 e), one))
+
+-- as a table, if there are no more than 16
+module _ (ls : List Luacd) {f : Filled} (is : f ≡ filled_with ls) where
+  pub listed_none : 16 < f.count → ◌≡◌ {A = Result (Table Luacd 16) Condition} (Err NoRoom) (listed_in ls)
+  unfolding filled_with listed_in
+  listed_none h = rw (lt-ltb 16 (length ls) (rw is at h))
+
+  pub listed_all : f.count ≤ 16 → ◌≡◌ {A = Result (Table Luacd 16) Condition} (Ok (record { count = f.count; items = f.luacds })) (listed_in ls)
+  unfolding filled_with listed_in
+  listed_all h =
+      let few : length ls ≤ 16 = rw is at h in
+      rw (is, take_all 16 ls few, le-ltb 16 (length ls) few)
+
+-- ---- descriptor after descriptor: the LUACDs so far, and those of the descriptors that are left, are together the ones that stand
+pub record Standing (luns run : List ℕ) (f : Filled) (ds : List Descriptor) : Type 0 where
   pub sofar : List Luacd
-  pub filling : Filling no_luacd target sofar (map (luacd_of luns) (not_overruled ds)) t
+  pub is : f ≡ filled_with sofar
+  pub whole : luacds_in luns run ≡ sofar ++ map (luacd_of luns) (not_overruled ds)
+  pub few : length sofar + length ds ≤ length run
 
-pub stand_first : (luns run : List ℕ) {blank : Luacd} {ds : List Descriptor} → blank ≡ no_luacd → ds ≡ descriptors_in run → Standing (luacds_in luns run) luns (record { count = 0; items = replicate 16 blank }) ds
-unfolding luacds_in
-stand_first luns run b e = rw (b, e) record { sofar = []; filling = fill_none no_luacd _ }
+pub stand_first : (luns run : List ℕ) {blank : Luacd} {ds : List Descriptor} → blank ≡ no_luacd → ds ≡ descriptors_in run → Standing luns run (record { luacds = replicate 16 blank; count = 0 }) ds
+unfolding luacds_in filled_with
+stand_first luns run b e =
+    rw (b, e)
+    record {
+      sofar = [];
+      is = refl;
+      whole = refl;
+      few = omega (arith, length_descriptors run);
+    }
 
-module _ {target : List Luacd} {luns : List ℕ} {t : Table Luacd 16} {ds : List Descriptor} (s : Standing target luns t ds) where
+module _ {luns run : List ℕ} {f : Filled} {ds : List Descriptor} (s : Standing luns run f ds) where
+  -- each LUACD so far has a descriptor of its own, and one is left
+  pub stand_counts : {d : Descriptor} {later : List Descriptor} → ds ≡ d ∷ later → f.count < length run
+  unfolding filled_with
+  stand_counts e = omega (arith, ap (λ x. x.count) s.is, ap length e, s.few)
+
   -- one more descriptor
   module _ {d : Descriptor} {later : List Descriptor} {b : Bool} (e : ds ≡ d ∷ later) (o : b ≡ any (overrules d) later) where
-    pub stand_falls : b ≡ true → Standing target luns t later
+    pub stand_falls : b ≡ true → Standing luns run f later
     unfolding not_overruled
-    stand_falls h = record { sofar = s.sofar; filling = fill_skip s.filling (rw (e, ← o, h)) }
+    stand_falls h =
+        record {
+          sofar = s.sofar;
+          is = s.is;
+          whole = s.whole ∙ rw (e, ← o, h);
+          few = omega (arith, ap length e, s.few);
+        }
 
-    module _ (h : b ≡ false) where
-      next : map (luacd_of luns) (not_overruled ds) ≡ luacd_of luns d ∷ map (luacd_of luns) (not_overruled later)
-      unfolding not_overruled
-      next = rw (e, ← o, h)
+    pub stand_more : b ≡ false → {f' : Filled} → f' ≡ joined_to f (luacd_of luns d) → Standing luns run f' later
+    unfolding not_overruled
+    stand_more h u =
+        let p = luacd_of luns d in
+        record {
+          sofar = s.sofar ++ (p ∷ []);
+          is = u ∙ ap (λ x. joined_to x p) s.is ∙ filled_more s.sofar p;
+          whole = s.whole ∙ rw (e, ← o, h, append_assoc);
+          few = omega (arith, ap length e, length-append s.sofar (p ∷ []), s.few);
+        }
 
-      pub stand_more : {t' : Table Luacd 16} → t.count < 16 → t' ≡ record { count = t.count + 1; items = set t.items t.count (luacd_of luns d) } → Standing target luns t' later
-      stand_more f u = record { sofar = _; filling = fill_more s.filling next f u }
-
-      -- a 17th has no room
-      pub stand_17th : 16 ≤ t.count → listed_in target ≡ Err NoRoom
-      unfolding listed_in
-      stand_17th f = rw (fill_full s.filling next f)
-
-  pub stand_end : ds ≡ [] → ◌≡◌ {A = Result (Table Luacd 16) Condition} (Ok t) (listed_in target)
-  unfolding listed_in not_overruled
-  stand_end e =
-      let none : map (luacd_of luns) (not_overruled ds) ≡ [] = rw e in
-      rw (fill_fits s.filling none) (ap Ok (fill_end s.filling none))
+  pub stand_end : ds ≡ [] → f ≡ filled_with (luacds_in luns run)
+  unfolding not_overruled
+  stand_end e = s.is ∙ ap filled_with (sym (s.whole ∙ rw (e, append-nil)))
 
 -- ---- the place that passes, or the list's length
 place_is : {A : Type 0} (p : A → Bool) (l : List A) → place_of p l ≡ position_or_len p l
@@ -73,4 +117,7 @@ place_or_length p l =
     (λ e. rw e (omega (arith, is, place_within p l, ltb-false _ _ e)))
 
 -- a descriptor stands, or falls
-pub ruleset stand = (stand_first, stand_more, stand_falls)
+pub ruleset stand = (stand_more, stand_falls)
+
+-- an ACE has room for them, or has none
+pub ruleset listed = (listed_none, listed_all)

@@ -6,14 +6,13 @@ ghost use Rattle.lists.specs.Pages.{pages_of};
 ghost use Rattle.paper.specs.Tables.{acl_of};
 ghost use Rattle.paper.specs.Pages.{is_grant};
 ghost use Rattle.manage.specs.EndState.{names_id, unnamed, new_aces};
-ghost use Rattle.manage.specs.Luacds.{luns_in};
 ghost use Rattle.manage.specs.Aces.{Uncrowded, Sized, put_listed, put_of, fitted, fitted_after};
 
 use crate::{luacds, room};
 use pages::{page, walks};
 use paper::answers::Condition;
 use paper::state;
-use paper::state::{Ace, Acl, ID_SIZE, IdType, Luacd, Units};
+use paper::state::{Ace, Acl, ID_SIZE, IdType, Luacd};
 use tables::{aces, identifiers};
 
 // The ACE of a list, which is none without LUACDs.
@@ -30,14 +29,15 @@ fn put_listed(k: IdType, id: [u8; ID_SIZE], luacds: &[Luacd]) -> Option<Ace>
 
 // "Page 00h replaces the ACE by the page's LUACDs", "Page 01h replaces it by all units".
 // Stays: pages by their codes, as the paper names them.
-fn put_by(units: &Units, page: &[u8]) -> Result<Option<Ace>, Condition>
-    ensures { result ≡ put_of (new_aces (luns_in units.now) page.now) }
+fn put_by(luns: &[u16], page: &[u8]) -> Result<Option<Ace>, Condition>
+    requires { length luns.now ≤ 32 }
+    ensures { result ≡ put_of (new_aces luns.now page.now) }
 {
     let k = page::page_type(page);
     let id = identifiers::kept_id(k, page::page_id(page));
     match page::page_code(page) {
         0x00 => {
-            let listed = luacds::standing_luacds(units, page::descriptors(page))?;
+            let listed = luacds::listed_luacds(luns, page::descriptors(page))?;
             Ok(put_listed(k, id, listed.in_use()))
         }
         0x01 => Ok(Some(aces::all_units_ace(k, id))),
@@ -76,13 +76,13 @@ fn unnamed_aces(acl: &Acl, pages: &[u8]) -> Acl
 
 // The ACEs, and behind them those that the pages put, in their order.
 #[tactic(auto, using(crate::proofs::Put::puts))]
-fn with_new(acl: Acl, units: &Units, pages: &[u8]) -> Result<Acl, Condition>
-    requires { Uncrowded acl }
-    ensures { result ≡ fitted (take acl.count acl.items ++ gather (new_aces (luns_in units.now)) (pages_of pages.now)) }
+fn with_new(acl: Acl, luns: &[u16], pages: &[u8]) -> Result<Acl, Condition>
+    requires { (Uncrowded acl) × (length luns.now ≤ 32) }
+    ensures { result ≡ fitted (take acl.count acl.items ++ gather (new_aces luns.now) (pages_of pages.now)) }
 {
     let mut next = acl;
     for page in walks::pages_of(pages) {
-        if let Some(ace) = put_by(units, page)? {
+        if let Some(ace) = put_by(luns, page)? {
             room::push(&mut next, ace)?;
         }
     }
@@ -91,12 +91,12 @@ fn with_new(acl: Acl, units: &Units, pages: &[u8]) -> Result<Acl, Condition>
 
 // The ACL after the pages, if it has room for it. Without a grant page it is as it was, to the last byte.
 #[tactic(auto, using(crate::proofs::Fits::fits_after))]
-pub fn aces_after(acl: &Acl, units: &Units, pages: &[u8]) -> Result<Acl, Condition>
-    requires { Sized acl.now }
-    ensures { result ≡ fitted_after (luns_in units.now) (pages_of pages.now) acl.now }
+pub fn aces_after(acl: &Acl, luns: &[u16], pages: &[u8]) -> Result<Acl, Condition>
+    requires { (Sized acl.now) × (length luns.now ≤ 32) }
+    ensures { result ≡ fitted_after luns.now (pages_of pages.now) acl.now }
 {
     if !some_grant(pages) {
         return Ok(*acl);
     }
-    with_new(unnamed_aces(acl, pages), units, pages)
+    with_new(unnamed_aces(acl, pages), luns, pages)
 }

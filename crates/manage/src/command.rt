@@ -47,7 +47,7 @@ fn put_into_effect(c: &Coordinator, list: &[u8]) -> Result<Coordinator, Conditio
     requires { Passed c.now list.now }
     ensures { result ≡ passed (manage_tests c.now list.now) (managed c.now list.now) }
 {
-    let acl = aces::aces_after(&c.acl, &c.units, header::pages_in(list))?;
+    let acl = aces::aces_after(&c.acl, c.units.in_use(), header::pages_in(list))?;
     let granted = granted_with(c, list, acl);
     let end = revoked_by(&granted, list);
     if clashes::some_clash(&end) {

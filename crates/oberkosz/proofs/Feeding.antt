@@ -2,7 +2,7 @@
 use Prim.Native.Nat.{ℕ, suc, ◌+◌, ◌-◌, ◌≤◌}
 use mathlib.Core.Path.{◌≡◌, refl, ap, sym, ◌∙◌, subst}
 use mathlib.Core.List.{List, [], ◌∷◌, ◌++◌, append_assoc, append-nil}
-use mathlib.Core.Bool.{Bool, true, false, cond}
+use mathlib.Core.Bool.{Bool, true, false, cond, ◌&&◌}
 use native.Mathlib.Omega.{arith}
 use native.Mathlib.Numerals.{add-one}
 use lib.ListN.{length, take, drop, length-take, length-drop}
@@ -11,7 +11,7 @@ use lib.Dec.{ltb}
 use borrow.Author.Tests.{ltb-true, ltb-false, lt-ltb, eq-eqb, ne_eqb}
 use Rattle.std.proofs.lemmas.List.{take-append-drop, nil_from_length}
 use Rattle.lists.specs.Lists.{any, place_of, parts}
-use Rattle.lists.proofs.Tests.{split, clashes, or_false}
+use Rattle.lists.proofs.Tests.{split, clashes, or_false, and_true}
 use Rattle.lists.proofs.Members.{place_some, place_none}
 use Rattle.paper.specs.Fresh.{nothing, fresh, started}
 use Rattle.paper.specs.Setup.{accepted, ids_in, luns_in}
@@ -65,6 +65,11 @@ fed_whole q x (b ∷ s) e =
     (λ h.
     rw (h, add-one (suc (place_of is_end s)))
     (rw (h, fed) (ap (λ n. fed q (lengthened x b) (take n s)) (sym (add-one (place_of is_end s))) ∙ (fed_whole q (lengthened x b) s (rw h at e) ∙ ap (λ l. answered q (line_of x l)) (append_assoc x.replaying.line (b ∷ []) (before_end s))))))
+
+-- ---- the program goes on: it went on before, and there was room
+pub all_going : {r : Bool} (a b c : Bool) → r ≡ (a && (b && c)) → r ≡ true → (a ≡ true) × (c ≡ true)
+all_going {r} a b c e going =
+    let on = and_true a (b && c) (sym e ∙ going) in (on.0, (and_true b c on.1).1)
 
 -- ---- a line that was answered and followed is where the audit is
 module _ (task : Task) (p r : Place) (standing ended standing' ended' : List ℕ) (l : List ℕ) where

@@ -1,8 +1,9 @@
 -- Where the program is in a journal: as Following.fed says of the bytes that were read.
-use Rattle.std.specs.Prelude.{ℕ, ◌≤◌, ◌≡◌, Bool, true, false, List, take, Option, Some, None}
+use Rattle.std.specs.Prelude.{ℕ, ◌-◌, ◌≤◌, ◌≡◌, Bool, true, false, List, take, Option, Some, None}
 use Rattle.audit.specs.Room.{Within}
 use Rattle.audit.specs.Following.{kept_in, Auditing}
 use Rattle.audit.specs.declared.following.Inquiry.{Inquiry}
+use Rattle.audit.specs.declared.cells.Asked.{Asked}
 use Rattle.oberkosz.specs.declared.task.Lines.{Lines}
 use Rattle.oberkosz.specs.declared.task.Audit.{Audit}
 use Rattle.oberkosz.specs.declared.task.Task.{Task}
@@ -23,6 +24,14 @@ lines_in (Some l) = l
 
 abbrev pub inquiry_in : Audit → Inquiry
 inquiry_in a = record { unit = a.unit; from = (lines_in a.lines).from; to = (lines_in a.lines).to }
+
+-- what its table tells of, where the next line would have a number: all lines of the journal, where none are named
+abbrev pub lines_told : Option Lines → ℕ → Lines
+lines_told None last = record { from = 1; to = last }
+lines_told (Some l) last = l
+
+abbrev pub asked_in : Audit → ℕ → Asked
+asked_in a next = record { from = (lines_told a.lines (next - 1)).from; to = (lines_told a.lines (next - 1)).to; last = next - 1 }
 
 -- of another task none is followed
 abbrev pub inquiry_of : Task → Inquiry

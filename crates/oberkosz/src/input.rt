@@ -164,6 +164,8 @@ fn read_through<I: Read, O: Write, E: Write>(
     p
 }
 
+// Never put into its caller: its 1.3 MB of buffers would then stand in the frame of a call that asks for help alone.
+#[inline(never)]
 pub fn run<I: Read, O: Write, E: Write>(task: Task, input: &mut I, to: &mut Console<O, E>) {
     let mut buffers = Buffers::new();
     let p = read_through(input, to, task, &mut buffers);

@@ -1,6 +1,6 @@
 // What the words of the program ask for.
 ghost use Rattle.std.specs.Prelude.{◌≡◌};
-ghost use Rattle.oberkosz.specs.Places.{inquiry_in};
+ghost use Rattle.oberkosz.specs.Places.{inquiry_in, asked_in};
 
 use audit::cells::Asked;
 use audit::following::Inquiry;
@@ -45,7 +45,9 @@ impl Audit {
     }
 
     // The lines asked for, where the next line would have a number: all of the journal, where none are named.
-    pub fn asked(self, next: u64) -> Asked {
+    pub fn asked(self, next: u64) -> Asked
+        ensures { result ≡ asked_in self next }
+    {
         let last = next.saturating_sub(1);
         let lines = self.lines.unwrap_or(Lines { from: 1, to: last });
         Asked {

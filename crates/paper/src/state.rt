@@ -169,7 +169,8 @@ impl ProxyLuns {
         ensures in_use { result.now ≡ take self.now.count self.now.items }
         ensures few { length result.now ≤ 32 }
     {
-        first(&self.items, self.count)
+        let ProxyLuns { count, items } = self;
+        first(items, *count)
     }
 }
 

@@ -35,3 +35,9 @@ pub some_proxy_page : (luns : List ℕ) (ts : List Token) {limit at e : ℕ} {ol
 unfolding proxy_page
 some_proxy_page luns [] h w = absurd (omega arith)
 some_proxy_page luns (t ∷ ts) h w = w
+
+-- the same of the first tokens of a table
+pub proxy_page_lem : (luns : List ℕ) (items : List Token) {n limit at e : ℕ} {old new : List ℕ} → 0 < n → length (take n items) ≡ n → Wrote limit at (head_bytes 0x02 (20 * n) ++ gather (token_bytes luns) (sort token_before (take n items))) old e new → Wrote limit at (proxy_page luns (take n items)) old e new
+proxy_page_lem luns items {n} {limit} {at} {e} {old} {new} h k w =
+    some_proxy_page luns (take n items) (omega (arith, h, k))
+    (subst (λ m. Wrote limit at (head_bytes 0x02 (20 * m) ++ gather (token_bytes luns) (sort token_before (take n items))) old e new) (sym k) w)

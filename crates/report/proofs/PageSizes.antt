@@ -44,6 +44,11 @@ some_there n k =
 pub proxy_length : (luns : List ℕ) (ts : List Token) → (length ts == 0) ≡ false → 4 + 20 * length ts ≡ length (proxy_page luns ts)
 proxy_length luns ts k = omega (arith, length_proxy luns ts, proxy_some (length ts) (some_there (length ts) k))
 
+-- the same of the first tokens of a table
+pub no_proxy_lem : (luns : List ℕ) (items : List Token) {n : ℕ} → n ≡ 0 → 0 ≡ length (proxy_page luns (take n items))
+unfolding proxy_page
+no_proxy_lem luns items e = rw e
+
 pub no_proxy_length : (luns : List ℕ) (ts : List Token) → (length ts == 0) ≡ true → 0 ≡ length (proxy_page luns ts)
 no_proxy_length luns ts k =
     let none : length ts ≡ 0 = eqb-true (length ts) 0 k in omega (arith, length_proxy luns ts, ap proxy_size none)

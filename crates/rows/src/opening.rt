@@ -36,7 +36,7 @@ fn row_has(x: &Row, l: u64) -> bool
 
 // The row by which a LUN opens.
 #[tactic(auto, unfolding(paper::specs::Rows::row_with))]
-fn opening_row(rows: &[Row], l: u64) -> Option<Row>
+pub fn opening_row(rows: &[Row], l: u64) -> Option<Row>
     ensures { result ≡ row_with opens_by l rows.now }
 {
     rows.iter()

@@ -5,9 +5,10 @@ use Rattle.std.specs.Simd.{first_chunks}
 use Rattle.lists.specs.Lists.{all, parts}
 use Rattle.lists.proofs.Members.{all_map}
 use Rattle.lists.proofs.Checks.{parts_take, parts_capped}
-use Rattle.paper.specs.Tables.{enrolments_of, enrolment_in, transports_of}
+use Rattle.paper.specs.Tables.{enrolments_of, enrolment_in}
 use Rattle.paper.specs.Standing.{enrolment_refers}
 use Rattle.paper.specs.declared.state.Coordinator.{Coordinator}
+use Rattle.paper.specs.declared.state.Initiators.{Initiators}
 
 pub chunks_parts : {A : Type 0} (size n : ℕ) (l : List A) → first_chunks size n l ≡ parts size n l
 unfolding parts
@@ -15,8 +16,8 @@ chunks_parts size zero l = refl
 chunks_parts size (suc n) l = rw (chunks_parts size n (drop size l))
 
 -- the parts of a table that has 16
-pub transports_lem : (c : Coordinator) → length c.initiators.ids ≡ 384 → c.initiators.count ≤ 16 → take c.initiators.count (parts 24 (length c.initiators.ids / 24) c.initiators.ids) ≡ transports_of c
-transports_lem c h k = rw h (sym (parts_take 24 c.initiators.count 16 c.initiators.ids k))
+pub transports_lem : (t : Initiators) → length t.ids ≡ 384 → t.count ≤ 16 → take t.count (parts 24 (length t.ids / 24) t.ids) ≡ parts 24 t.count t.ids
+transports_lem t h k = rw h (sym (parts_take 24 t.count 16 t.ids k))
 
 -- an enrolment refers to an ACE of its AccessID, read from its bytes
 abbrev pub refers : Coordinator → List ℕ → Bool

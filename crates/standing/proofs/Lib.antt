@@ -1,3 +1,4 @@
 pub mod Chunks
 pub mod Live
+pub mod Pairs
 pub mod Setup

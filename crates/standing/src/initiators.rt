@@ -3,10 +3,10 @@ ghost use Rattle.std.specs.Prelude.{◌≡◌, not, ◌<◌, ◌/◌, ◌≤◌,
 ghost use Rattle.lists.specs.Lists.{all, pairs, parts};
 ghost use Rattle.lists.specs.Bytes.{same_bytes};
 ghost use Rattle.paper.specs.Identifiers.{valid_transport};
-ghost use Rattle.paper.specs.Tables.{transports_of, enrolments_of, enrolment_in};
+ghost use Rattle.paper.specs.Tables.{enrolments_of, enrolment_in};
 ghost use Rattle.paper.specs.Standing.{enrolment_refers};
 
-use paper::state::{Coordinator, ENROLMENT_SIZE, ID_SIZE, IdType};
+use paper::state::{Coordinator, ENROLMENT_SIZE, ID_SIZE, IdType, Initiators};
 use tables::enrolments::Enrolment;
 use tables::{aces, identifiers};
 
@@ -22,28 +22,28 @@ fn parts<const N: usize>(bytes: &[u8], n: usize) -> &[[u8; N]]
 
 // The TransportIDs, by initiator number.
 #[tactic(auto, using(crate::proofs::Chunks::transports_lem))]
-fn transports(c: &Coordinator) -> &[[u8; ID_SIZE]]
-    requires { c.now.initiators.count ≤ 16 }
-    ensures { result.now ≡ transports_of c.now }
+fn transports(t: &Initiators) -> &[[u8; ID_SIZE]]
+    requires { t.now.count ≤ 16 }
+    ensures { result.now ≡ parts 24 t.now.count t.now.ids }
 {
-    parts(&c.initiators.ids, c.initiators.count)
+    parts(&t.ids, t.count)
 }
 
 // "the initiators' 24-byte TransportIDs, all different and valid"
-pub fn transports_valid(c: &Coordinator) -> bool
-    requires { c.now.initiators.count ≤ 16 }
-    ensures { result ≡ all valid_transport (transports_of c.now) }
+pub fn transports_valid(t: &Initiators) -> bool
+    requires { t.now.count ≤ 16 }
+    ensures { result ≡ all valid_transport (parts 24 t.now.count t.now.ids) }
 {
-    transports(c)
+    transports(t)
         .iter()
         .all(|id| identifiers::valid_transport(id))
 }
 
-pub fn transports_once(c: &Coordinator) -> bool
-    requires { c.now.initiators.count ≤ 16 }
-    ensures { result ≡ not (pairs (same_bytes 24) (transports_of c.now)) }
+pub fn transports_once(t: &Initiators) -> bool
+    requires { t.now.count ≤ 16 }
+    ensures { result ≡ not (pairs (same_bytes 24) (parts 24 t.now.count t.now.ids)) }
 {
-    !lists::some_pair(transports(c), |a, b| wire::same(a, b, ID_SIZE))
+    !lists::some_pair(transports(t), |a, b| wire::same(a, b, ID_SIZE))
 }
 
 // Whether an enrolment, read from its bytes, is under an AccessID that has an ACE, if it is under any.

@@ -14,8 +14,8 @@ pub fn setup_kept(c: &Coordinator) -> bool
 {
     let luns = c.units.in_use();
     c.initiators.count <= 16
-        && initiators::transports_valid(c)
-        && initiators::transports_once(c)
+        && initiators::transports_valid(&c.initiators)
+        && initiators::transports_once(&c.initiators)
         && units::defaults_formed(luns)
         && units::defaults_once(luns)
 }

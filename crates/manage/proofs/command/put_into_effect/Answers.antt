@@ -11,14 +11,14 @@ use Rattle.manage.proofs.Phases.{count_granted, count_revoked, counts, fails_5, 
 use Rattle.manage.proofs.command.put_into_effect.Goals as goal
 
 pub aces_after-requires : goal.aces_after-requires
-aces_after-requires c = sized (counts _ _ c.requires)
+aces_after-requires c = (sized (counts _ _ c.requires), c.in_use.ensures.few)
 
 pub returns-in_err-acl : goal.returns-in_err-acl
 unfolding ace_pages
 returns-in_err-acl c =
     let passed = c.requires in
     let p = err_from_is_err_and c.from_residual.result c.from_residual.ensures.1 in
-    let none = no_fit _ (sized (counts _ _ passed)) _ _ (sym (rw c.pages_in.ensures at c.in_err-acl.ensures)) in
+    let none = no_fit _ (sized (counts _ _ passed)) _ _ (sym (rw (c.in_use.ensures.in_use, c.pages_in.ensures) at c.in_err-acl.ensures)) in
     rw (p.1, p.2) (ap Err none.1 ∙ fails_5 _ _ passed none.0)
 
 pub granted_with-granted-requires : goal.granted_with-granted-requires
@@ -35,7 +35,7 @@ pub returns-then-some_clash : goal.returns-then-some_clash
 unfolding ace_pages
 returns-then-some_clash c =
     let passed = c.requires in
-    let fits = fit _ (sized (counts _ _ passed)) _ _ (sym (rw c.pages_in.ensures at c.in_ok-acl.ensures)) in
+    let fits = fit _ (sized (counts _ _ passed)) _ _ (sym (rw (c.in_use.ensures.in_use, c.pages_in.ensures) at c.in_ok-acl.ensures)) in
     let is = c.revoked_by-end.ensures ∙ ap (revoked_by _) c.granted_with-granted.ensures ∙ ap (end_with _ _) fits.is in
     fails_6 _ _ passed fits.fits (ap some_clash (sym is) ∙ sym c.some_clash.ensures ∙ c.if-some_clash.true)
 
@@ -43,6 +43,6 @@ pub returns : goal.returns
 unfolding ace_pages
 returns c =
     let passed = c.requires in
-    let fits = fit _ (sized (counts _ _ passed)) _ _ (sym (rw c.pages_in.ensures at c.in_ok-acl.ensures)) in
+    let fits = fit _ (sized (counts _ _ passed)) _ _ (sym (rw (c.in_use.ensures.in_use, c.pages_in.ensures) at c.in_ok-acl.ensures)) in
     let is = c.revoked_by-end.ensures ∙ ap (revoked_by _) c.granted_with-granted.ensures ∙ ap (end_with _ _) fits.is in
     ap Ok is ∙ all_pass _ _ passed fits.fits (ap some_clash (sym is) ∙ sym c.some_clash.ensures ∙ c.if-some_clash.false)

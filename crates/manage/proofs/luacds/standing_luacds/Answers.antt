@@ -1,16 +1,13 @@
--- A LUACD has no room, or all are put.
-use Rattle.std.proofs.Common.{ap, sym}
-use Rattle.std.specs.Prelude.{Err}
-use Rattle.std.proofs.lemmas.Result.{err_from_is_err_and}
-use mathlib.Core.Path.{◌∙◌}
-use Rattle.manage.proofs.Standing.{stand_17th, stand_end}
+-- Each LUACD has a descriptor of its own in the run, so that their number fits. In the end all are put.
+use Rattle.std.proofs.Common.{arith}
+use Rattle.manage.proofs.Standing.{stand_first, stand_counts, stand_end}
 use Rattle.manage.proofs.luacds.standing_luacds.Goals as goal
 
-pub returns-in_err-push : goal.returns-in_err-push
-returns-in_err-push c =
-    let p = err_from_is_err_and c.from_residual.result c.from_residual.ensures.1 in
-    rw (p.1, p.2)
-    (ap Err c.in_err-push.ensures.condition ∙ sym (stand_17th c.loop-d.invariant c.in-Some.ensures.steps (c.overruled.ensures ∙ rw c.left.ensures) c.if-not-overruled.true c.in_err-push.ensures.full))
+pub loop-d-init : goal.loop-d-init
+loop-d-init c = stand_first c.args.luns.now c.args.run.now c.no_luacd.ensures c.descriptors_in-descriptors.ensures
+
+pub join-requires : goal.join-requires
+join-requires c = omega (arith, stand_counts c.loop-d.invariant c.in-Some.ensures.steps)
 
 pub returns : goal.returns
 returns c = stand_end c.loop-d.invariant c.in_default.ensures.steps.0

@@ -6,11 +6,10 @@ use Rattle.std.specs.Option.{unwrap_or}
 use mathlib.Core.Path.{◌∙◌}
 use borrow.Author.Tests.{tests}
 use Rattle.paper.specs.Pages.{is_default}
-use Rattle.manage.specs.Luacds.{luns_in}
 use Rattle.manage.proofs.Standing.{place_or_length}
 use Rattle.manage.proofs.luacds.unit_with.Goals as goal
 
 pub returns : goal.returns
 returns c =
-    let found = position_from_yields_List (is_default c.args.l) c.position-unit.new.self _ _ c.position-unit.ensures.ran (YieldsList-from_slice (luns_in c.args.units.now) cc) (λ x b q k. search (rules, tests)) in
-    c.unwrap_or.ensures ∙ rw (c.in_use-luns.ensures.in_use) (ap (λ o. unwrap_or o (length (luns_in c.args.units.now))) found ∙ place_or_length _ _)
+    let found = position_from_yields_List (is_default c.args.l) c.position-unit.new.self _ _ c.position-unit.ensures.ran (YieldsList-from_slice c.args.luns.now cc) (λ x b q k. search (rules, tests)) in
+    c.unwrap_or.ensures ∙ ap (λ o. unwrap_or o (length c.args.luns.now)) found ∙ place_or_length _ _
