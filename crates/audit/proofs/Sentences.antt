@@ -1,15 +1,12 @@
 -- Laws of the first line and the answer: who is named, the names joined, what the parts take.
-use Prim.Native.Nat.{ℕ, zero, suc, ◌+◌, ◌≤◌}
-use mathlib.Core.Path.{◌≡◌, sym, ap, ◌∙◌}
-use mathlib.Core.List.{List, [], ◌∷◌, ◌++◌, append-nil}
+use Prim.Native.Nat.{ℕ, ◌+◌, ◌≤◌}
+use mathlib.Core.List.{List, [], ◌∷◌, ◌++◌}
 use Rattle.std.specs.Prelude.{Option, Some, None}
 use mathlib.Core.Bool.{Bool, true, false, cond}
 use native.Mathlib.Omega.{arith}
-use native.Mathlib.Nat.{add-zero, zero-add}
-use native.Mathlib.Numerals.{add-one}
 use lib.Dec.{eqb, ltb}
 use lib.ListN.{length, take, get_or, length-append, length-take}
-use Rattle.lists.specs.Lists.{keep, count, below}
+use Rattle.lists.specs.Lists.{keep, below}
 use Rattle.lists.proofs.Members.{length_keep}
 use Rattle.lists.proofs.Parts.{length_count}
 use Rattle.lists.proofs.Sums.{gather_most}

@@ -1,5 +1,5 @@
 // The first line of an audit, and its answer.
-ghost use Rattle.std.specs.Prelude.{◌≡◌, ℕ, ◌+◌, ◌<◌, ◌≤◌, List, [], ◌∷◌, ◌++◌, length, take};
+ghost use Rattle.std.specs.Prelude.{◌≡◌, ◌+◌, ◌<◌, ◌≤◌, length};
 ghost use Rattle.lists.specs.Lists.{any, keep, below};
 ghost use Rattle.lists.specs.Tables.{filled};
 ghost use Rattle.wire.specs.Write.{Wrote};
